@@ -1,0 +1,3 @@
+pub mod NamedValue
+pub mod Numbers
+pub mod Outcome

@@ -1,0 +1,13 @@
+-- `key::Keys::none` meets its contract, by computation.
+-- Assumes nothing.
+use mathlib.Core.Path.{refl}
+use Rattle.key.specs.Key.{keysOf, zeroKey, mostKeys}
+use Rattle.key.proofs.Keys.none.Statement.{statement}
+use Rattle.key.proofs.Keys.none.Tie as tie
+
+returns : tie.Need-returns
+unfolding keysOf zeroKey mostKeys
+returns c = refl
+
+pub none-spec : {M : Type 1} → statement M
+none-spec = tie.close (tie.spec returns)

@@ -1,0 +1,111 @@
+// Keys of 32 bytes. Every comparison of keys goes through `same_key`.
+ghost use mathlib.Core.Path.{_≡_};
+ghost use mathlib.Core.List.{[]};
+ghost use lib.ListN.{length};
+ghost use Rattle.key.specs.Key.{sameKey, isAmong, keysIn, keysOf, withKey};
+
+pub const KEY_LENGTH: usize = 32;
+
+pub const MAX_KEYS: usize = 16;
+
+pub struct Key {
+    pub bytes: [u8; 32],
+}
+
+// At most sixteen keys, without repeats; past the count stand keys of zeros.
+pub struct Keys {
+    pub list: [Key; 16],
+    pub count: usize,
+}
+
+// Whether both are keys and the same; a length other than 32 is no key.
+pub fn same_key(a: &[u8], b: &[u8]) -> bool
+    ensures { λ r. ⌜ r ≡ sameKey (now (a .entry)) (now (b .entry)) ⌝ }
+{
+    if a.len() != KEY_LENGTH {
+        return false;
+    }
+    if b.len() != KEY_LENGTH {
+        return false;
+    }
+    let mut i = 0;
+    while i < KEY_LENGTH {
+        if a[i] != b[i] {
+            return false;
+        }
+        i += 1;
+    }
+    true
+}
+
+// The key of a part that has its length.
+fn key_of(part: &[u8]) -> Key
+    requires { ⌜ length (now part) ≡ 32 ⌝ }
+    ensures { λ r. ⌜ r .bytes ≡ now (part .entry) ⌝ }
+{
+    let mut bytes = [0u8; 32];
+    let mut i = 0;
+    while i < KEY_LENGTH {
+        bytes[i] = part[i];
+        i += 1;
+    }
+    Key { bytes }
+}
+
+impl Key {
+    fn is(self, key: &[u8]) -> bool
+        ensures { λ r. ⌜ r ≡ sameKey (self .bytes) (now (key .entry)) ⌝ }
+    {
+        let bytes = self.bytes;
+        same_key(&bytes, key)
+    }
+}
+
+impl Keys {
+    pub fn none() -> Self
+        ensures { λ r. ⌜ r ≡ keysOf [] ⌝ }
+    {
+        Keys {
+            list: [Key { bytes: [0u8; 32] }; 16],
+            count: 0,
+        }
+    }
+
+    pub fn holds(self, key: &[u8]) -> bool
+        ensures { λ r. ⌜ r ≡ isAmong (now (key .entry)) (keysIn self) ⌝ }
+    {
+        let count = self.count;
+        let mut i = 0;
+        while i < MAX_KEYS {
+            if count <= i {
+                return false;
+            }
+            let k = self.list[i];
+            if k.is(key) {
+                return true;
+            }
+            i += 1;
+        }
+        false
+    }
+
+    pub fn with(self, key: &[u8]) -> Self
+        ensures { λ r. ⌜ r ≡ withKey self (now (key .entry)) ⌝ }
+    {
+        let count = self.count;
+        if MAX_KEYS <= count {
+            return self;
+        }
+        if key.len() != KEY_LENGTH {
+            return self;
+        }
+        if self.holds(key) {
+            return self;
+        }
+        let mut more = self;
+        let k = key_of(key);
+        more.list[count] = k;
+        more.count = count + 1;
+        more
+    }
+}
