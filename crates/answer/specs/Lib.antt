@@ -1,3 +1,4 @@
 pub mod NamedValue
 pub mod Numbers
 pub mod Outcome
+pub mod Refusable

@@ -84,3 +84,7 @@ accepts a = eqb (a .number) accepted
 unfoldable pub firstRefusal : List Answer → Answer
 firstRefusal [] = answer accepted
 firstRefusal (a ∷ rest) = elim (accepts a) [ true ↦ firstRefusal rest | false ↦ a ]
+
+-- a rule: the refusal n where it is broken
+abbrev pub refuseIf : Bool → ℕ → Answer
+refuseIf broken n = answer (cond broken n accepted)

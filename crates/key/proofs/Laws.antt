@@ -9,7 +9,7 @@ use borrow.Author.Tests.{eq-eqb, ne-eqb, lt-ltb, le-ltb}
 use lib.Dec.{eqb}
 use lib.ListN.{length, getD, take, drop, set, drop-of-length-le, length-take, length-map, List·getD-map}
 use lib.Seq.{drop-cons, getD-take}
-use Rattle.key.specs.Key.{keyLength, mostKeys, sameBytes, sameKey, isAmong, keysIn, withKey}
+use Rattle.key.specs.Key.{sameBytes, sameKey, isAmong, keysIn, withKey}
 use Rattle.key.specs.declared.Key.{Key}
 use Rattle.key.specs.declared.Keys.{Keys}
 
@@ -27,15 +27,15 @@ unfolding sameBytes
 same-bytes-end a b i ha hb = rw (drop-of-length-le a ha, drop-of-length-le b hb)
 
 pub keys-compared : (a b : List ℕ) → length a ≡ 32 → length b ≡ 32 → sameKey a b ≡ sameBytes a b
-unfolding sameKey keyLength
+unfolding sameKey
 keys-compared a b ha hb = rw (eq-eqb _ _ ha, eq-eqb _ _ hb)
 
 pub left-no-key : (a b : List ℕ) → (length a ≡ 32 → ⊥) → sameKey a b ≡ false
-unfolding sameKey keyLength
+unfolding sameKey
 left-no-key a b h = rw (ne-eqb _ _ h)
 
 pub right-no-key : (a b : List ℕ) → (length b ≡ 32 → ⊥) → sameKey a b ≡ false
-unfolding sameKey keyLength
+unfolding sameKey
 right-no-key a b h = rw (ne-eqb _ _ h, and-false)
 
 among-step : (key : List ℕ) (l : Keys) (i : ℕ) (d : Key) → i < l .count → i < length (l .list)
@@ -62,11 +62,11 @@ among-end key l i h =
 
 module _ (l : Keys) (key : List ℕ) where
   pub with-full : 16 ≤ l .count → withKey l key ≡ l
-  unfolding withKey mostKeys
+  unfolding withKey
   with-full h = rw (le-ltb _ _ h)
 
   pub with-no-key : (length key ≡ 32 → ⊥) → withKey l key ≡ l
-  unfolding withKey keyLength
+  unfolding withKey
   with-no-key h = rw (ne-eqb _ _ h, and-false)
 
   pub with-repeat : isAmong key (keysIn l) ≡ true → withKey l key ≡ l
@@ -75,5 +75,5 @@ module _ (l : Keys) (key : List ℕ) where
 
   pub with-new : (k : Key) → k .bytes ≡ key → l .count < 16 → length key ≡ 32 → isAmong key (keysIn l) ≡ false
       → withKey l key ≡ record { list = set (l .list) (l .count) k; count = l .count + 1 }
-  unfolding withKey mostKeys keyLength
+  unfolding withKey
   with-new k e hc hk ha = rw (lt-ltb _ _ hc, eq-eqb _ _ hk, ha, ← e)

@@ -9,11 +9,11 @@ use Rattle.key.specs.declared.Key.{Key}
 use Rattle.key.specs.declared.Keys.{Keys}
 
 -- the bytes of a key
-unfoldable pub keyLength : ℕ
+abbrev pub keyLength : ℕ
 keyLength = 32
 
 -- the most keys of a list
-unfoldable pub mostKeys : ℕ
+abbrev pub mostKeys : ℕ
 mostKeys = 16
 
 -- whether two rows of bytes are the same

@@ -1,0 +1,4 @@
+pub mod Cutting
+pub mod Parsing
+pub mod Table
+pub mod Views

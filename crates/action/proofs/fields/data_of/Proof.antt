@@ -1,0 +1,54 @@
+-- `action::fields::data_of` meets its contract: past the two tests the data is there, and else it passes the end.
+-- Assumes nothing.
+use mathlib.Core.Path.{sym, _∙_}
+use native.Mathlib.Nat.{add-sub-cancel-left}
+use native.Mathlib.Omega.{arith}
+use Rattle.action.proofs.Views.{data-there, data-past}
+use borrow.Author.Needs.{needs}
+use Rattle.action.proofs.fields.data_of.Statement.{statement}
+use Rattle.action.proofs.fields.data_of.Tie as tie
+
+slice-aggregate-result : tie.Need-slice-aggregate-result
+slice-aggregate-result c = search needs
+
+returns : tie.Need-returns
+returns c = sym (data-past _ (c .before .before .args .view) (omega arith))
+
+sub-if2 : tie.Need-sub-if2
+sub-if2 c = search needs
+
+slice-aggregate-result-2 : tie.Need-slice-aggregate-result-2
+slice-aggregate-result-2 c = search needs
+
+returns-2 : tie.Need-returns-2
+returns-2 c = sym (data-past _ (c .before .before .before .args .view) (omega arith))
+
+add-result : tie.Need-add-result
+add-result c = search needs
+
+sub-result : tie.Need-sub-result
+sub-result c = search needs
+
+part-result-start : tie.Need-part-result-start
+part-result-start c = search needs
+
+part-result-end : tie.Need-part-result-end
+part-result-end c = search needs
+
+returns-3 : tie.Need-returns-3
+returns-3 c = rw add-sub-cancel-left (sym (data-there _ (c .before .before .before .args .view) (omega arith)))
+
+pub data-of-spec : {M : Type 1} → statement M
+data-of-spec =
+    tie.close
+    (tie.spec
+    slice-aggregate-result
+    returns
+    sub-if2
+    slice-aggregate-result-2
+    returns-2
+    add-result
+    sub-result
+    part-result-start
+    part-result-end
+    returns-3)

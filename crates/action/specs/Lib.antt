@@ -1,0 +1,5 @@
+pub mod Region
+pub mod Creation
+pub mod Fields
+pub mod Views
+pub mod NamedValues

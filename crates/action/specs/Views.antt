@@ -1,0 +1,63 @@
+-- Where the actions of a region lie: the values that the code answers with, each from the actions that were cut.
+-- Assumes nothing.
+use Prim.Native.Nat.{ℕ, _+_, _-_}
+use mathlib.Core.Bool.{Bool, cond}
+use mathlib.Core.List.{List, [], _∷_, _++_, map}
+use lib.Dec.{leb}
+use lib.ListN.{length, take, drop, replicate}
+use Rattle.answer.specs.Numbers.{answer, accepted}
+use Rattle.answer.specs.declared.Answer.{Answer}
+use Rattle.answer.specs.Refusable.{Refusable, given, refused}
+use Rattle.action.specs.declared.ActionView.{ActionView}
+use Rattle.action.specs.declared.HeaderRead.{HeaderRead}
+use Rattle.action.specs.declared.HeaderRead.the-variants.{View, Refused}
+use Rattle.action.specs.declared.Parsed.{Parsed}
+use Rattle.action.specs.Region.{Action, first, headerLength, mostActions}
+
+-- the view of an action whose header starts at a place
+unfoldable pub viewAt : ℕ → Action → ActionView
+viewAt place a = record { kind = a .kind; expires = a .expires; at = place + headerLength; len = length (a .payload) }
+
+-- the views of a row of actions, the first at a place
+unfoldable pub placed : ℕ → List Action → List ActionView
+unfolding viewAt
+placed place [] = []
+placed place (a ∷ l) = viewAt place a ∷ placed (place + headerLength + length (a .payload)) l
+
+-- what stands past the last view
+abbrev pub zeroView : ActionView
+zeroView = record { kind = 0; expires = 0; at = 0; len = 0 }
+
+-- what reading the header at a place answers
+unfoldable pub headerAt : List ℕ → ℕ → HeaderRead
+unfolding viewAt
+headerAt s at = elim (first (drop at s)) [ given f ↦ View (viewAt at (f .act)) | refused r ↦ Refused r ]
+
+-- the number of a header's answer
+abbrev pub headerAnswer : HeaderRead → Answer
+headerAnswer (View v) = answer accepted
+headerAnswer (Refused r) = r
+
+-- a region's views: those of the actions that were cut, and none where it was refused
+unfoldable pub parsedOf : Refusable (List Action) → Parsed
+unfolding placed
+parsedOf (given l) = record { answer = answer accepted; views = placed 0 l ++ replicate (mostActions - length l) zeroView; count = length l }
+parsedOf (refused r) = record { answer = r; views = replicate 16 zeroView; count = 0 }
+
+-- the data that a view names, or nothing where it passes the end
+unfoldable pub dataAt : List ℕ → ActionView → List ℕ
+dataAt s v = cond (leb (v .at + v .len) (length s)) (take (v .len) (drop (v .at) s)) []
+
+-- the action that a view names
+unfoldable pub actionAt : List ℕ → ActionView → Action
+unfolding dataAt
+actionAt s v = record { kind = v .kind; expires = v .expires; payload = dataAt s v }
+
+-- the views that are counted
+unfoldable pub viewsIn : Parsed → List ActionView
+viewsIn p = take (p .count) (p .views)
+
+-- the actions that the counted views name
+unfoldable pub actionsAt : List ℕ → Parsed → List Action
+unfolding actionAt viewsIn
+actionsAt s p = map (actionAt s) (viewsIn p)

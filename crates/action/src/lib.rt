@@ -1,0 +1,54 @@
+// The action region: reading headers, cutting, creation, the stored form, and the fields of an
+// action's data. Any bytes get an answer.
+pub mod fields;
+pub mod parse;
+
+use answer::Answer;
+
+pub const ACTION_HEADER_SIZE: usize = 11;
+
+pub const MAX_ACTIONS: usize = 16;
+
+pub const SOL_LIMIT: u8 = 1;
+
+pub const SOL_RECURRING_LIMIT: u8 = 2;
+
+pub const SOL_MAX_PER_TX: u8 = 3;
+
+pub const TOKEN_LIMIT: u8 = 4;
+
+pub const TOKEN_RECURRING_LIMIT: u8 = 5;
+
+pub const TOKEN_MAX_PER_TX: u8 = 6;
+
+pub const PROGRAM_WHITELIST: u8 = 10;
+
+pub const PROGRAM_BLACKLIST: u8 = 11;
+
+// An action of a region: its type's code, its expiry, and where its data starts and how long it is.
+pub struct ActionView {
+    pub kind: u8,
+    pub expires: u64,
+    pub at: usize,
+    pub len: usize,
+}
+
+// What reading a header answers.
+pub enum HeaderRead {
+    View(ActionView),
+    Refused(Answer),
+}
+
+// A region's actions in order; past the count, and on a refusal everywhere, stands the zero view.
+pub struct Parsed {
+    pub answer: Answer,
+    pub views: [ActionView; 16],
+    pub count: usize,
+}
+
+// What each action has to keep by itself.
+pub enum Rule {
+    Length,
+    Fresh,
+    Windowed,
+}

@@ -1,0 +1,118 @@
+// Cutting a region into views of its actions.
+use crate::ACTION_HEADER_SIZE;
+use crate::ActionView;
+use crate::HeaderRead;
+use crate::MAX_ACTIONS;
+use crate::Parsed;
+use answer::ACCEPTED;
+use answer::ACTION_BUFFER_INVALID;
+use answer::Answer;
+ghost use mathlib.Core.Path.{_≡_};
+ghost use Rattle.answer.specs.Refusable.{refused};
+ghost use Rattle.action.specs.Region.{dataLength, cut, mostActions};
+ghost use Rattle.action.specs.Views.{headerAt, headerAnswer, parsedOf, zeroView};
+
+// The data lengths by type code, 0 for unknown codes.
+const DATA_LENGTHS: [usize; 12] = [0, 8, 32, 8, 40, 64, 40, 0, 0, 0, 32, 32];
+
+pub fn expected_data_size(code: u8) -> usize
+    ensures { λ r. ⌜ r ≡ dataLength code ⌝ }
+{
+    let i = code as usize;
+    if i < 12 { DATA_LENGTHS[i] } else { 0 }
+}
+
+fn short() -> HeaderRead
+    ensures { λ r. ⌜ r ≡ HeaderRead.Refused (record { number = 1 }) ⌝ }
+{
+    HeaderRead::Refused(Answer::of(ACTION_BUFFER_INVALID))
+}
+
+// The view of the action whose header starts at `at`; refused where the header is short, the type
+// unknown or the data past the end.
+pub fn read_header(region: &[u8], at: usize) -> HeaderRead
+    ensures { λ r. ⌜ r ≡ headerAt (now (region .entry)) at ⌝ }
+{
+    if region.len() < at {
+        return short();
+    }
+    let left = region.len() - at;
+    if left < ACTION_HEADER_SIZE {
+        return short();
+    }
+    let kind = region[at];
+    if expected_data_size(kind) == 0 {
+        return short();
+    }
+    let len = number::read_u16(region, at + 1) as usize;
+    if left - ACTION_HEADER_SIZE < len {
+        return short();
+    }
+    HeaderRead::View(ActionView {
+        kind,
+        expires: number::read_u64(region, at + 3),
+        at: at + ACTION_HEADER_SIZE,
+        len,
+    })
+}
+
+// The refusal of a header's answer, or acceptance.
+pub fn header_answer(read: HeaderRead) -> Answer
+    ensures { λ r. ⌜ r ≡ headerAnswer read ⌝ }
+{
+    match read {
+        HeaderRead::View(_) => Answer::of(ACCEPTED),
+        HeaderRead::Refused(answer) => answer,
+    }
+}
+
+impl ActionView {
+    fn zero() -> Self
+        ensures { λ r. ⌜ r ≡ zeroView ⌝ }
+    {
+        ActionView {
+            kind: 0,
+            expires: 0,
+            at: 0,
+            len: 0,
+        }
+    }
+}
+
+impl Parsed {
+    // A refusal has no views.
+    pub fn refused(answer: Answer) -> Self
+        ensures { λ r. ⌜ r ≡ parsedOf (refused answer) ⌝ }
+    {
+        Parsed {
+            answer,
+            views: [ActionView::zero(); 16],
+            count: 0,
+        }
+    }
+}
+
+pub fn parse_actions(region: &[u8]) -> Parsed
+    ensures { λ r. ⌜ r ≡ parsedOf (cut mostActions (now (region .entry))) ⌝ }
+{
+    let mut views = [ActionView::zero(); 16];
+    let mut count = 0;
+    let mut at = 0;
+    while at < region.len() {
+        if MAX_ACTIONS <= count {
+            return Parsed::refused(Answer::of(ACTION_BUFFER_INVALID));
+        }
+        let read = read_header(region, at);
+        let HeaderRead::View(view) = read else {
+            return Parsed::refused(header_answer(read));
+        };
+        views[count] = view;
+        count += 1;
+        at = view.at + view.len;
+    }
+    Parsed {
+        answer: Answer::of(ACCEPTED),
+        views,
+        count,
+    }
+}
