@@ -1,12 +1,13 @@
 -- Laws of cutting: when the first action is there, and what the header at a place answers.
 -- Assumes nothing.
 use mathlib.Core.Path.{_≡_, refl, sym, ap, _∙_, subst}
-use mathlib.Core.Bool.{Bool, true, false, cond, and-false, and-eq-true-iff}
+use mathlib.Core.Bool.{Bool, true, false, cond, _&&_, and-false, and-eq-true-iff}
 use mathlib.Core.List.{List, [], _∷_, _++_}
 use Prim.Native.Nat.{ℕ, zero, suc, _+_, _-_, _<_, _≤_}
 use native.Mathlib.Nat.{add-zero, not-suc-le-zero}
 use native.Mathlib.Omega.{arith}
 use borrow.Author.Tests.{le-leb, lt-leb, lt-ltb, le-ltb, leb-true, ltb-true}
+use lib.Dec.{leb, ltb}
 use lib.ListN.{length, getD, take, drop, length-take, length-drop}
 use lib.Seq.{drop-drop, getD-drop, length-take-le}
 use Rattle.answer.specs.declared.Answer.{Answer}
@@ -26,6 +27,10 @@ firstOf s = record {
   act = record { kind = getD s 0 0; expires = number (take 8 (drop 3 s)); payload = take (statedLength s) (drop 11 s) };
   rest = drop (11 + statedLength s) s;
 }
+
+-- its test
+abbrev wholeFirst : List ℕ → Bool
+wholeFirst s = leb 11 (length s) && ltb 0 (dataLength (getD s 0 0)) && leb (11 + statedLength s) (length s)
 
 first-given : (s : List ℕ) → 11 ≤ length s → 0 < dataLength (getD s 0 0) → 11 + statedLength s ≤ length s → first s ≡ given (firstOf s)
 unfolding first
@@ -119,10 +124,18 @@ chosen : (t : Bool) (g f : First) (r : Answer) → cond t (given g) (refused r) 
 chosen true g f r e = (refl, cc)
 chosen false g f r e = absurd (let z : _≡_ {A = ℕ} 0 1 = cc in omega arith)
 
+refused-with : (t : Bool) (g : First) (q r : Answer) → cond t (given g) (refused q) ≡ refused r → r ≡ q
+refused-with true g q r e = absurd (let z : _≡_ {A = ℕ} 0 1 = cc in omega arith)
+refused-with false g q r e = cc
+
+pub first-refuses : (s : List ℕ) (r : Answer) → first s ≡ refused r → r ≡ answer actionBufferInvalid
+unfolding first
+first-refuses s r e = refused-with (wholeFirst s) (firstOf s) (answer actionBufferInvalid) r e
+
 pub first-is : (s : List ℕ) (f : First) → first s ≡ given f → IsFirst s f
 unfolding first
 first-is s f e =
-    let (t, g) = chosen _ (firstOf s) f (answer actionBufferInvalid) e in
+    let (t, g) = chosen (wholeFirst s) (firstOf s) f (answer actionBufferInvalid) e in
     let (tt′, there) = and-eq-true-iff _ _ .0 t in
     let (long, listed) = and-eq-true-iff _ _ .0 tt′ in
     subst (λ (x : First). IsFirst s x) g (first-is-of s (leb-true _ _ long) (ltb-true _ _ listed) (leb-true _ _ there))

@@ -26,7 +26,7 @@ unfolding placed endOf
 placed-append place [] a = refl
 placed-append place (b ∷ l) a = ap (λ (vs : List ActionView). viewAt place b ∷ vs) (placed-append (place + 11 + length (b .payload)) l a)
 
-length-placed : (place : ℕ) (l : List Action) → length (placed place l) ≡ length l
+pub length-placed : (place : ℕ) (l : List Action) → length (placed place l) ≡ length l
 unfolding placed
 length-placed place [] = refl
 length-placed place (a ∷ l) = ap suc (length-placed (place + 11 + length (a .payload)) l)

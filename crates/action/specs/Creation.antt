@@ -27,25 +27,24 @@ unfolding keeps
 allKeep rule [] = true
 allKeep rule (a ∷ l) = keeps rule a && allKeep rule l
 
+-- the types' codes of some actions
+abbrev pub kindsOf : List Action → List ℕ
+kindsOf l = map (λ (a : Action). a .kind) l
+
 -- how often a code is among some
 unfoldable pub howOften : ℕ → List ℕ → ℕ
 howOften code [] = 0
 howOften code (c ∷ cs) = cond (eqb c code) 1 0 + howOften code cs
 
--- how many actions are of a type
-unfoldable pub howMany : ℕ → List Action → ℕ
+-- whether both kinds of list are among some types' codes
+unfoldable pub bothLists : List ℕ → Bool
 unfolding howOften
-howMany kind l = howOften kind (map (λ (a : Action). a .kind) l)
-
--- whether both kinds of list are there
-unfoldable pub bothLists : List Action → Bool
-unfolding howMany
-bothLists l = ltb 0 (howMany programWhitelist l) && ltb 0 (howMany programBlacklist l)
+bothLists kinds = ltb 0 (howOften programWhitelist kinds) && ltb 0 (howOften programBlacklist kinds)
 
 -- whether there is a second action of one SOL type
-unfoldable pub solRepeats : List Action → Bool
-unfolding howMany
-solRepeats l = ltb 1 (howMany solLimit l) || ltb 1 (howMany solRecurringLimit l) || ltb 1 (howMany solMaxPerTx l)
+unfoldable pub solRepeats : List ℕ → Bool
+unfolding howOften
+solRepeats kinds = ltb 1 (howOften solLimit kinds) || ltb 1 (howOften solRecurringLimit kinds) || ltb 1 (howOften solMaxPerTx kinds)
 
 -- whether one of some actions has a's type and a's mint
 unfoldable pub mintAgain : Action → List Action → Bool
@@ -64,8 +63,8 @@ unfolding allKeep bothLists solRepeats mintRepeats
 formOf breach conflict ending l =
     firstRefusal
     (refuseIf (not (allKeep Length l)) breach
-    ∷ refuseIf (bothLists l) conflict
-    ∷ refuseIf (solRepeats l) breach
+    ∷ refuseIf (bothLists (kindsOf l)) conflict
+    ∷ refuseIf (solRepeats (kindsOf l)) breach
     ∷ refuseIf (mintRepeats l) breach
     ∷ refuseIf (not (allKeep ending l)) breach
     ∷ [])

@@ -57,6 +57,11 @@ actionAt s v = record { kind = v .kind; expires = v .expires; payload = dataAt s
 unfoldable pub viewsIn : Parsed → List ActionView
 viewsIn p = take (p .count) (p .views)
 
+-- the types' codes of the counted views
+unfoldable pub kindsIn : Parsed → List ℕ
+unfolding viewsIn
+kindsIn p = map (λ (v : ActionView). v .kind) (viewsIn p)
+
 -- the actions that the counted views name
 unfoldable pub actionsAt : List ℕ → Parsed → List Action
 unfolding actionAt viewsIn

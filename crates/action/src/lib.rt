@@ -1,6 +1,7 @@
 // The action region: reading headers, cutting, creation, the stored form, and the fields of an
 // action's data. Any bytes get an answer.
 pub mod fields;
+pub mod form;
 pub mod parse;
 
 use answer::Answer;

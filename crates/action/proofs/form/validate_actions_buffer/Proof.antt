@@ -1,0 +1,31 @@
+-- `action::form::validate_actions_buffer` meets its contract: cutting decides first, then the form.
+-- Assumes nothing.
+use mathlib.Core.Path.{sym, _∙_}
+use borrow.Author.Tests.{not-true, not-false}
+use Rattle.action.proofs.Forms.{creation-by-form, creation-refused}
+use borrow.Author.Needs.{needs}
+use Rattle.action.proofs.form.validate_actions_buffer.Statement.{statement}
+use Rattle.action.proofs.form.validate_actions_buffer.Tie as tie
+
+parse-actions-requires : tie.Need-parse-actions-requires
+parse-actions-requires c κs = search needs
+
+accepts-requires : tie.Need-accepts-requires
+accepts-requires c κs = search needs
+
+returns : tie.Need-returns
+returns c =
+    sym (creation-refused _ _ (c .before .before .before .parse-actions .ensures) (sym (c .before .accepts .ensures) ∙ not-true _ (c .if1 .taken)))
+
+form-requires : tie.Need-form-requires
+form-requires c κs = search needs
+
+returns-2 : tie.Need-returns-2
+returns-2 c =
+    let test = c .before in
+    c .form .ensures
+    ∙ sym (creation-by-form _ _ (c .before .before .before .before .parse-actions .ensures) (sym (test .before .accepts .ensures) ∙ not-false _ (test .if1 .left)))
+
+pub validate-actions-buffer-spec : {M : Type 1} → statement M
+validate-actions-buffer-spec =
+    tie.close (tie.spec parse-actions-requires accepts-requires returns form-requires returns-2)
