@@ -22,7 +22,7 @@ use Rattle.action.specs.Region.{Action, First, dataLength, statedLength,
 use Rattle.action.specs.Views.{viewAt, headerAt}
 
 -- what is given where the header is whole, the type known and the data all there
-abbrev firstOf : List ℕ → First
+abbrev pub firstOf : List ℕ → First
 firstOf s = record {
   act = record { kind = getD s 0 0; expires = number (take 8 (drop 3 s)); payload = take (statedLength s) (drop 11 s) };
   rest = drop (11 + statedLength s) s;
@@ -32,7 +32,7 @@ firstOf s = record {
 abbrev wholeFirst : List ℕ → Bool
 wholeFirst s = leb 11 (length s) && ltb 0 (dataLength (getD s 0 0)) && leb (11 + statedLength s) (length s)
 
-first-given : (s : List ℕ) → 11 ≤ length s → 0 < dataLength (getD s 0 0) → 11 + statedLength s ≤ length s → first s ≡ given (firstOf s)
+pub first-given : (s : List ℕ) → 11 ≤ length s → 0 < dataLength (getD s 0 0) → 11 + statedLength s ≤ length s → first s ≡ given (firstOf s)
 unfolding first
 first-given s long known there = rw (le-leb _ _ long, lt-ltb _ _ known, le-leb _ _ there)
 

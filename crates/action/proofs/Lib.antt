@@ -1,7 +1,9 @@
 pub mod Cuts
 pub mod Cutting
 pub mod Forms
+pub mod Gluing
 pub mod Keeping
+pub mod NamedValues
 pub mod Parsing
 pub mod Scanning
 pub mod Table

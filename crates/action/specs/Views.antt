@@ -66,3 +66,7 @@ kindsIn p = map (λ (v : ActionView). v .kind) (viewsIn p)
 unfoldable pub actionsAt : List ℕ → Parsed → List Action
 unfolding actionAt viewsIn
 actionsAt s p = map (actionAt s) (viewsIn p)
+
+-- a region with an action's data written where a view says, or unchanged where that passes the end
+unfoldable pub writtenAt : List ℕ → ActionView → Action → List ℕ
+writtenAt s v a = cond (leb (v .at + v .len) (length s)) (take (v .at) s ++ a .payload ++ drop (v .at + v .len) s) s

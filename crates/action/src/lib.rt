@@ -47,6 +47,14 @@ pub struct Parsed {
     pub count: usize,
 }
 
+// What an accepted call writes into an action: nothing, what is left of a limit, or what is spent in
+// a window and the slot that the window began at.
+pub enum Change {
+    Nothing,
+    Remaining(u64),
+    Spent(u64, u64),
+}
+
 // What each action has to keep by itself.
 pub enum Rule {
     Length,

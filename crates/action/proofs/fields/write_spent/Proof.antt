@@ -1,6 +1,5 @@
 -- `action::fields::write_spent` meets its contract: one write after the other.
 -- Assumes nothing.
-use mathlib.Core.Path.{_≡_, _∙_, ap}
 use borrow.Author.Needs.{needs}
 use Rattle.action.proofs.fields.write_spent.Statement.{statement}
 use Rattle.action.proofs.fields.write_spent.Tie as tie
