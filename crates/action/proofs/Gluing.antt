@@ -5,7 +5,7 @@ use mathlib.Core.Bool.{Bool, true, false, cond, _&&_, and-eq-true-iff}
 use mathlib.Core.List.{List, [], _∷_, _++_, append-assoc}
 use Prim.Native.Nat.{ℕ, zero, suc, _+_, _-_, _*_, _^_, _<_, _≤_}
 use native.Mathlib.Omega.{arith}
-use borrow.Author.Tests.{eqb-true, leb-true}
+use borrow.Author.Tests.{eqb-true, leb-true, le-leb}
 use lib.Dec.{eqb, leb}
 use lib.ListN.{length, getD, take, drop, length-append, length-drop, take-append-drop}
 use lib.Seq.{drop-drop, drop-cons, take-at, drop-at, length-take-le}
@@ -14,9 +14,11 @@ use Rattle.number.specs.Number.{number, bytesOf, Bytes}
 use Rattle.number.proofs.Laws.{bytesOf-number, number-bytesOf, length-bytesOf, bytes-take, bytes-drop}
 use Rattle.action.specs.declared.Rule.the-variants.{Length}
 use Rattle.action.specs.Region.{Action, First, Typed, types, first, cut, glueOne, glue, dataLength, sizeAmong, statedLength}
+use Rattle.action.specs.Views.{viewAt, dataAt, actionAt, writtenAt}
 use Rattle.action.specs.Creation.{keeps, allKeep}
 use Rattle.action.proofs.Cutting.{IsFirst, first-given, cut-end, cut-first}
 use Rattle.action.proofs.Cuts.{Cuts, none, more}
+use Rattle.action.proofs.Views.{data-there}
 
 -- the bytes at some place are their number's bytes
 stated : (width at : ℕ) (s : List ℕ) → Bytes s → at + width ≤ length s → bytesOf width (number (take width (drop at s))) ≡ take width (drop at s)
@@ -149,3 +151,56 @@ region-at-most {s = s} (more {f = f} facts cuts) e =
     let size : length (f .act .payload) ≡ dataLength (f .act .kind) = eqb-true _ _ here in
     let rest = rw (facts .rest-is, length-drop (11 + length (f .act .payload)) s) at (region-at-most cuts after) in
     omega (arith, data-at-most (f .act .kind))
+
+-- ---- an action among others
+
+pub glue-append : (l m : List Action) → glue (l ++ m) ≡ glue l ++ glue m
+unfolding glue
+glue-append [] m = refl
+glue-append (a ∷ l) m = ap (λ (r : List ℕ). glueOne a ++ r) (glue-append l m) ∙ sym (append-assoc (glueOne a) (glue l) (glue m))
+
+-- the header of an action
+headerOf : Action → List ℕ
+headerOf a = a .kind ∷ bytesOf 2 (length (a .payload)) ++ bytesOf 8 (a .expires)
+
+length-header : (a : Action) → length (headerOf a) ≡ 11
+unfolding headerOf
+length-header a = simp (length-append, length-bytesOf)
+
+-- what stands before an action's data in a glued row, the data, and what stands after it
+around : (l : List Action) (a : Action) (m : List Action) → glue (l ++ (a ∷ m)) ≡ (glue l ++ headerOf a) ++ (a .payload ++ glue m)
+unfolding glue glueOne headerOf
+around l a m = glue-append l (a ∷ m) ∙ simp append-assoc
+
+module _ (l : List Action) (a : Action) (m : List Action) where
+  before-data : length (glue l ++ headerOf a) ≡ length (glue l) + 11
+  before-data = length-append (glue l) (headerOf a) ∙ ap (λ (n : ℕ). length (glue l) + n) (length-header a)
+
+  within-glued : length (glue l) + 11 + length (a .payload) ≤ length (glue (l ++ (a ∷ m)))
+  within-glued = rw (around l a m, length-append (glue l ++ headerOf a) (a .payload ++ glue m), before-data, length-append (a .payload) (glue m)) (omega arith)
+
+  from-data : drop (length (glue l) + 11) (glue (l ++ (a ∷ m))) ≡ a .payload ++ glue m
+  from-data = ap (drop (length (glue l) + 11)) (around l a m) ∙ drop-at (glue l ++ headerOf a) _ _ before-data
+
+  -- a view of the action names it
+  pub glued-action : actionAt (glue (l ++ (a ∷ m))) (viewAt (length (glue l)) a) ≡ a
+  unfolding actionAt viewAt
+  glued-action =
+      let there = data-there (glue (l ++ (a ∷ m))) (viewAt (length (glue l)) a) within-glued in
+      let payload : dataAt (glue (l ++ (a ∷ m))) (viewAt (length (glue l)) a) ≡ a .payload =
+      there ∙ ap (take (length (a .payload))) from-data ∙ take-at (a .payload) (glue m) _ refl in
+      ap (λ (p : List ℕ). record { kind = a .kind; expires = a .expires; payload = p }) payload
+
+  -- writing in place is replacing that action, where the type, the expiry and the data's length stay
+  pub glued-written : (b : Action) → b .kind ≡ a .kind → b .expires ≡ a .expires → length (b .payload) ≡ length (a .payload)
+      → writtenAt (glue (l ++ (a ∷ m))) (viewAt (length (glue l)) a) b ≡ glue (l ++ (b ∷ m))
+  unfolding writtenAt viewAt headerOf
+  glued-written b k x n =
+      let s = glue (l ++ (a ∷ m)) in
+      let at = length (glue l) + 11 in
+      let front : take at s ≡ glue l ++ headerOf a = ap (take at) (around l a m) ∙ take-at (glue l ++ headerOf a) _ _ before-data in
+      let back : drop (at + length (a .payload)) s ≡ glue m = sym (drop-drop (length (a .payload)) at s) ∙ ap (drop (length (a .payload))) from-data ∙ drop-at (a .payload) (glue m) _ refl in
+      let same : headerOf a ≡ headerOf b = unfold headerOf in rw (k, x, n) in
+      rw (le-leb _ _ within-glued)
+      (ap₂ (λ (p q : List ℕ). p ++ b .payload ++ q) (front ∙ ap (λ (h : List ℕ). glue l ++ h) same) back
+      ∙ append-assoc (glue l ++ headerOf b) (b .payload) (glue m) ∙ sym (around l b m))

@@ -7,4 +7,5 @@ pub mod NamedValues
 pub mod Parsing
 pub mod Scanning
 pub mod Table
+pub mod Theorems
 pub mod Views
