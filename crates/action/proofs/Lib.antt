@@ -3,6 +3,7 @@ pub mod Cutting
 pub mod Forms
 pub mod Gluing
 pub mod Keeping
+pub mod Listing
 pub mod NamedValues
 pub mod Parsing
 pub mod Scanning

@@ -2,6 +2,7 @@
 // action's data. Any bytes get an answer.
 pub mod fields;
 pub mod form;
+pub mod mints;
 pub mod parse;
 
 use answer::Answer;
