@@ -1,0 +1,32 @@
+-- Charges as the code has them: views of a region's actions, and an amount for each.
+-- Assumes nothing.
+use Prim.Native.Nat.{ℕ}
+use mathlib.Core.List.{List, [], _∷_}
+use Rattle.action.specs.declared.ActionView.{ActionView}
+use Rattle.action.specs.declared.Parsed.{Parsed}
+use Rattle.action.specs.Region.{Action}
+use Rattle.action.specs.Views.{actionAt, actionsAt, viewsIn, writtenAt}
+use Rattle.limit.specs.declared.Amounts.{Amounts}
+use Rattle.limit.specs.Limit.{Charge, settled}
+
+-- actions with an amount each, as far as both go
+unfoldable pub charges : List Action → List ℕ → List Charge
+charges [] xs = []
+charges (a ∷ l) [] = []
+charges (a ∷ l) (x ∷ xs) = record { act = a; amount = x } ∷ charges l xs
+
+-- the charges of the counted views
+unfoldable pub chargesAt : List ℕ → Parsed → Amounts → List Charge
+unfolding charges
+chargesAt s p amounts = charges (actionsAt s p) (amounts .list)
+
+-- a region after each view's action is settled where it lies, one after the other
+unfoldable pub settledViews : ℕ → List ActionView → List ℕ → List ℕ → List ℕ
+settledViews slot [] xs s = s
+settledViews slot (v ∷ vs) [] s = s
+settledViews slot (v ∷ vs) (x ∷ xs) s = settledViews slot vs xs (writtenAt s v (settled slot (record { act = actionAt s v; amount = x })))
+
+-- the same for the counted views
+unfoldable pub settledAt : ℕ → Parsed → Amounts → List ℕ → List ℕ
+unfolding settledViews
+settledAt slot p amounts s = settledViews slot (viewsIn p) (amounts .list) s
