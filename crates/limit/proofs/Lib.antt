@@ -1,2 +1,3 @@
 pub mod Charging
 pub mod Rules
+pub mod Settling

@@ -2,12 +2,14 @@
 -- written is read back.
 -- Assumes nothing.
 use mathlib.Core.Path.{_≡_, refl, sym, ap, _∙_}
+use mathlib.Core.Bool.{Bool, true, false, cond}
 use mathlib.Core.List.{List, [], _∷_, _++_}
 use Prim.Native.Nat.{ℕ, zero, suc, _+_, _*_, _/_, _%_, _^_, _<_, _≤_}
 use native.Mathlib.Nat.{pow-suc}
 use native.Mathlib.Omega.{arith}
-use borrow.Author.Tests.{le-leb, lt-leb}
-use lib.ListN.{length, getD, take, drop, length-drop}
+use borrow.Author.Tests.{le-leb, lt-leb, leb-true}
+use lib.Dec.{leb}
+use lib.ListN.{length, getD, take, drop, length-append, length-drop, length-take}
 use lib.Seq.{getD-drop, take-add, drop-drop, drop-cons, length-take-le, sets, sets-eq}
 use Rattle.number.specs.Number.{number, bytesOf, numberAt, withNumberAt, Bytes}
 
@@ -98,3 +100,14 @@ pub bytes-append : (s t : List ℕ) → Bytes s → Bytes t → Bytes (s ++ t)
 bytes-append [] t hs ht i = ht i
 bytes-append (b ∷ s) t hs ht zero = hs 0
 bytes-append (b ∷ s) t hs ht (suc i) = bytes-append s t (λ j. hs (suc j)) ht i
+
+-- writing a number keeps the length
+pub length-with-number : (width : ℕ) (s : List ℕ) (at n : ℕ) → length (withNumberAt width s at n) ≡ length s
+unfolding withNumberAt
+length-with-number width s at n = go (leb (at + width) (length s)) refl
+  where
+    go : (t : Bool) → leb (at + width) (length s) ≡ t → length (cond t (take at s ++ bytesOf width n ++ drop (at + width) s) s) ≡ length s
+    go true e =
+        let fits : at + width ≤ length s = leb-true _ _ e in
+        simp (length-append, length-bytesOf, length-drop, length-take) (omega arith)
+    go false e = refl

@@ -1,0 +1,102 @@
+-- Settling a glued row of actions where they lie is gluing the settled actions.
+-- Assumes nothing.
+use mathlib.Core.Path.{_≡_, refl, sym, ap, ap₂, _∙_}
+use mathlib.Core.Bool.{Bool, true, false}
+use mathlib.Core.List.{List, [], _∷_, _++_, map, append-assoc, append-nil}
+use Prim.Native.Nat.{ℕ, zero, suc, _+_, _-_, _<_, _≤_, min}
+use native.Mathlib.Omega.{arith}
+use lib.ListN.{length, take, drop, replicate, length-append, length-take, length-drop}
+use lib.Seq.{take-at}
+use Rattle.answer.specs.Refusable.{Refusable, given, refused}
+use Rattle.number.proofs.Laws.{length-with-number}
+use Rattle.action.specs.declared.ActionView.{ActionView}
+use Rattle.action.specs.declared.Change.{Change}
+use Rattle.action.specs.declared.Change.the-variants.{Nothing, Remaining, Spent}
+use Rattle.action.specs.Region.{Action, glueOne, glue}
+use Rattle.action.specs.Fields.{mintLength, amountsOf, withAmounts, changedAmounts, changed}
+use Rattle.action.specs.Views.{actionAt, viewAt, placed, viewsIn, parsedOf, writtenAt, zeroView}
+use Rattle.action.proofs.Gluing.{glue-append, length-glueOne, glued-action, glued-written}
+use Rattle.action.proofs.Parsing.{length-placed}
+use Rattle.limit.specs.declared.Amounts.{Amounts}
+use Rattle.limit.specs.Limit.{Charge, changeOf, settled}
+use Rattle.limit.specs.Views.{charges, settledViews, settledAt}
+
+length-changed-amounts : (change : Change) (amounts : List ℕ) → length (changedAmounts change amounts) ≡ length amounts
+length-changed-amounts Nothing amounts = refl
+length-changed-amounts (Remaining n) amounts = length-with-number 8 amounts 0 n
+length-changed-amounts (Spent x y) amounts = length-with-number 8 _ 24 y ∙ length-with-number 8 amounts 8 x
+
+-- a change keeps the type, the expiry and the data's length
+module _ (change : Change) (a : Action) where
+  pub changed-kind : (changed change a) .kind ≡ a .kind
+  unfolding changed withAmounts
+  changed-kind = refl
+
+  pub changed-expires : (changed change a) .expires ≡ a .expires
+  unfolding changed withAmounts
+  changed-expires = refl
+
+  pub changed-length : length ((changed change a) .payload) ≡ length (a .payload)
+  unfolding changed withAmounts amountsOf
+  changed-length =
+      length-append (take (mintLength (a .kind)) (a .payload)) _
+      ∙ ap (λ (n : ℕ). length (take (mintLength (a .kind)) (a .payload)) + n) (length-changed-amounts change _)
+      ∙ rw (length-take (mintLength (a .kind)) (a .payload), length-drop (mintLength (a .kind)) (a .payload)) (omega arith)
+
+module _ (slot : ℕ) (c : Charge) where
+  pub settled-kind : (settled slot c) .kind ≡ c .act .kind
+  unfolding settled
+  settled-kind = changed-kind (changeOf slot c) (c .act)
+
+  pub settled-expires : (settled slot c) .expires ≡ c .act .expires
+  unfolding settled
+  settled-expires = changed-expires (changeOf slot c) (c .act)
+
+  pub settled-length : length ((settled slot c) .payload) ≡ length (c .act .payload)
+  unfolding settled
+  settled-length = changed-length (changeOf slot c) (c .act)
+
+-- the actions of some charges
+pub acts-of : (l : List Action) (xs : List ℕ) → length l ≤ length xs → map (λ (c : Charge). c .act) (charges l xs) ≡ l
+unfolding charges
+acts-of [] xs h = refl
+acts-of (a ∷ l) [] h = absurd (let z : _≡_ {A = ℕ} 0 1 = omega arith in omega arith)
+acts-of (a ∷ l) (x ∷ xs) h = ap (λ (k : List Action). a ∷ k) (acts-of l xs (omega arith))
+
+glue-one : (a : Action) → glue (a ∷ []) ≡ glueOne a
+unfolding glue
+glue-one a = append-nil (glueOne a)
+
+length-glue-one : (done : List Action) (a : Action) → length (glue (done ++ (a ∷ []))) ≡ length (glue done) + 11 + length (a .payload)
+length-glue-one done a =
+    let one : length (glue (a ∷ [])) ≡ 11 + length (a .payload) = ap length (glue-one a) ∙ length-glueOne a in
+    ap length (glue-append done (a ∷ [])) ∙ length-append (glue done) (glue (a ∷ [])) ∙ rw one (omega arith)
+
+-- settling the views of a glued row, from the first on
+settle-from : (slot : ℕ) (l : List Action) (xs : List ℕ) (done : List Action) → length l ≤ length xs
+    → settledViews slot (placed (length (glue done)) l) xs (glue (done ++ l)) ≡ glue (done ++ map (settled slot) (charges l xs))
+unfolding settledViews placed charges
+settle-from slot [] xs done h = refl
+settle-from slot (a ∷ l) [] done h = absurd (let z : _≡_ {A = ℕ} 0 1 = omega arith in omega arith)
+settle-from slot (a ∷ l) (x ∷ xs) done h =
+    let c : Charge = record { act = a; amount = x } in
+    let b = settled slot c in
+    let s = glue (done ++ (a ∷ l)) in
+    let v = viewAt (length (glue done)) a in
+    let named : actionAt s v ≡ a = glued-action done a l in
+    let wrote : writtenAt s v (settled slot (record { act = actionAt s v; amount = x })) ≡ glue ((done ++ (b ∷ [])) ++ l) =
+    ap (λ (k : Action). writtenAt s v (settled slot (record { act = k; amount = x }))) named
+    ∙ glued-written done a l b (settled-kind slot c) (settled-expires slot c) (settled-length slot c)
+    ∙ ap glue (sym (append-assoc done (b ∷ []) l)) in
+    let next : length (glue done) + 11 + length (a .payload) ≡ length (glue (done ++ (b ∷ []))) =
+    ap (λ (n : ℕ). length (glue done) + 11 + n) (sym (settled-length slot c)) ∙ sym (length-glue-one done b) in
+    ap₂ (λ (place : ℕ) (r : List ℕ). settledViews slot (placed place l) xs r) next wrote
+    ∙ settle-from slot l xs (done ++ (b ∷ [])) (omega arith)
+    ∙ ap glue (append-assoc done (b ∷ []) (map (settled slot) (charges l xs)))
+
+-- settling a region where its actions lie is gluing the settled actions
+pub settle-glued : (slot : ℕ) (l : List Action) (amounts : Amounts) → length l ≤ length (amounts .list)
+    → settledAt slot (parsedOf (given l)) amounts (glue l) ≡ glue (map (settled slot) (charges l (amounts .list)))
+unfolding settledAt viewsIn parsedOf glue
+settle-glued slot l amounts h =
+    rw (take-at (placed 0 l) (replicate (16 - length l) zeroView) (length l) (length-placed 0 l)) (settle-from slot l (amounts .list) [] h)
