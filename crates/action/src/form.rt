@@ -103,7 +103,7 @@ fn all_keep(region: &[u8], parsed: Parsed, rule: Rule) -> bool
     true
 }
 
-fn how_often(parsed: Parsed, kind: u8) -> usize
+pub fn how_often(parsed: Parsed, kind: u8) -> usize
     ensures { λ r. ⌜ r ≡ howOften kind (kindsIn parsed) ⌝ }
 {
     let n = counted(parsed);

@@ -77,7 +77,7 @@ module _ (l : Keys) (key : List ℕ) where
 
 -- ---- the same key is the same bytes
 
-same-bytes-eq : (a b : List ℕ) → sameBytes a b ≡ true → a ≡ b
+pub same-bytes-eq : (a b : List ℕ) → sameBytes a b ≡ true → a ≡ b
 unfolding sameBytes
 same-bytes-eq [] [] e = refl
 same-bytes-eq [] (y ∷ b) e = absurd (let n : _≡_ {A = ℕ} 0 1 = cc in omega arith)
@@ -86,7 +86,7 @@ same-bytes-eq (x ∷ a) (y ∷ b) e =
     let (here, after) = and-eq-true-iff (eqb x y) _ .0 e in
     ap₂ (λ (z : ℕ) (l : List ℕ). z ∷ l) (eqb-true x y here) (same-bytes-eq a b after)
 
-same-bytes-refl : (a : List ℕ) → sameBytes a a ≡ true
+pub same-bytes-refl : (a : List ℕ) → sameBytes a a ≡ true
 unfolding sameBytes
 same-bytes-refl [] = refl
 same-bytes-refl (x ∷ a) = rw (eq-eqb x x refl) (same-bytes-refl a)

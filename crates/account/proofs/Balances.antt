@@ -1,0 +1,85 @@
+-- Laws of token accounts and balances, as the code goes: test by test, and from the last record to the first.
+-- Assumes nothing.
+use mathlib.Core.Path.{_≡_}
+use mathlib.Core.Bool.{true, false, _||_, and-true, and-false, and-eq-true-iff}
+use mathlib.Core.List.{List, [], _∷_, _++_}
+use Prim.Native.Nat.{ℕ, suc, _+_, _-_, _^_, _<_, _≤_}
+use native.Mathlib.Omega.{arith}
+use borrow.Author.Tests.{le-leb, lt-leb, leb-true}
+use lib.ListN.{length, getD, drop, drop-of-length-le}
+use Rattle.key.specs.Key.{sameKey}
+use Rattle.number.specs.Number.{cappedSum, highest}
+use Rattle.account.specs.declared.RecordView.{RecordView}
+use Rattle.account.specs.declared.Table.{Table}
+use Rattle.account.specs.Table.{Record}
+use Rattle.account.specs.Tokens.{splToken, token2022, isTokenAccount, mintOf, holderOf, amountOf, isCounted, share, holdings, balance}
+use Rattle.account.specs.Views.{recordAt, recordsAt}
+use Rattle.account.proofs.Views.{records-step}
+
+module _ (r : Record) where
+  pub no-token-account : length (r .payload) < 165 → isTokenAccount r ≡ false
+  unfolding isTokenAccount
+  no-token-account short = rw (lt-leb _ _ short, and-false)
+
+  module _ (long : 165 ≤ length (r .payload)) where
+    pub spl-account : sameKey (r .owner) splToken ≡ true → isTokenAccount r ≡ true
+    unfolding isTokenAccount
+    spl-account e = rw (e, le-leb _ _ long)
+
+    pub not-spl-account : sameKey (r .owner) splToken ≡ false → isTokenAccount r ≡ sameKey (r .owner) token2022
+    unfolding isTokenAccount
+    not-spl-account e = rw (e, le-leb _ _ long, and-true)
+
+  pub token-account-long : isTokenAccount r ≡ true → 165 ≤ length (r .payload)
+  unfolding isTokenAccount
+  token-account-long e = leb-true _ _ (and-eq-true-iff (sameKey (r .owner) splToken || sameKey (r .owner) token2022) _ .0 e .1)
+
+  module _ (vault : List ℕ) where
+    pub no-account-not-counted : isTokenAccount r ≡ false → isCounted vault r ≡ false
+    unfolding isCounted
+    no-account-not-counted e = rw e
+
+    pub account-counted : isTokenAccount r ≡ true → isCounted vault r ≡ sameKey (holderOf r) vault
+    unfolding isCounted
+    account-counted e = rw e
+
+    -- a total and what the record adds to it
+    module _ (mint : List ℕ) (total : ℕ) where
+      stays : total < 2 ^ 64 → share vault mint r ≡ 0 → cappedSum total (share vault mint r) ≡ total
+      unfolding cappedSum highest
+      stays fits e = rw e (omega arith)
+
+      pub stays-other-mint : total < 2 ^ 64 → sameKey (mintOf r) mint ≡ false → cappedSum total (share vault mint r) ≡ total
+      unfolding share
+      stays-other-mint fits e = stays fits (rw (e, and-false))
+
+      pub stays-not-counted : total < 2 ^ 64 → isCounted vault r ≡ false → cappedSum total (share vault mint r) ≡ total
+      unfolding share
+      stays-not-counted fits e = stays fits (rw e)
+
+      pub grows-counted : isCounted vault r ≡ true → sameKey (mintOf r) mint ≡ true → cappedSum total (share vault mint r) ≡ cappedSum total (amountOf r)
+      unfolding share
+      grows-counted c m = rw (c, m)
+
+module _ (vault mint : List ℕ) where
+  pub holdings-append : (l m : List Record) → holdings vault mint (l ++ m) ≡ holdings vault mint l + holdings vault mint m
+  unfolding holdings
+  holdings-append [] m = omega arith
+  holdings-append (r ∷ l) m = rw (holdings-append l m) (omega arith)
+
+  pub balance-none : (l : List Record) (i : ℕ) → length l ≤ i → balance vault mint (drop i l) ≡ 0
+  unfolding balance holdings
+  balance-none l i h = rw (drop-of-length-le l h) (omega arith)
+
+  pub balance-cons : (r : Record) (l : List Record) → balance vault mint (r ∷ l) ≡ cappedSum (balance vault mint l) (share vault mint r)
+  unfolding balance holdings cappedSum
+  balance-cons r l = omega arith
+
+  -- the balance from the record before a place on
+  pub balance-before : (s : List ℕ) (t : Table) (i : ℕ) (d : RecordView) → 0 < i → i ≤ t .count → i ≤ length (t .views)
+      → balance vault mint (drop (i - 1) (recordsAt s t))
+      ≡ cappedSum (balance vault mint (drop i (recordsAt s t))) (share vault mint (recordAt s (getD (t .views) (i - 1) d)))
+  balance-before s t i d some hc hv =
+      let place : suc (i - 1) ≡ i = omega arith in
+      let step = rw place at (records-step s t (i - 1) d (omega arith) (omega arith)) in
+      rw step (balance-cons _ _)

@@ -1,0 +1,10 @@
+pub mod Refusing
+pub mod Parts
+pub mod Cutting
+pub mod Parsing
+pub mod Given
+pub mod Views
+pub mod Gluing
+pub mod Balances
+pub mod Lookups
+pub mod Theorems

@@ -1,0 +1,111 @@
+-- What is promised of the account table, each as one sentence.
+-- Assumes nothing.
+use mathlib.Core.Path.{_≡_, refl, ap, _∙_}
+use mathlib.Core.Bool.{Bool, true, false, and-eq-true-iff}
+use mathlib.Core.List.{List, _∷_, _++_, List·Permᴰ, List·Permᴰ·nil, List·Permᴰ·cons, List·Permᴰ·swap, List·Permᴰ·trans}
+use mathlib.Core.Logic.{_↔_}
+use Prim.Native.Nat.{ℕ, zero, suc, _<_, _≤_}
+use native.Mathlib.Nat.{not-suc-le-zero, le-of-suc-le-suc}
+use native.Mathlib.Omega.{arith}
+use borrow.Author.Tests.{ltb-true, ltb-false}
+use lib.Dec.{ltb}
+use lib.ListN.{length}
+use lib.Seq.{length-take-le}
+use Rattle.answer.specs.declared.Answer.{Answer}
+use Rattle.answer.specs.Numbers.{answer, badTable}
+use Rattle.answer.specs.Refusable.{Refusable, given, refused}
+use Rattle.number.specs.Number.{Bytes, number, cappedSum, highest}
+use Rattle.account.specs.Table.{Record, AllStorable, cutRecords, cutTable, recordsOf, glueTable, mostRecords}
+use Rattle.account.specs.Tokens.{isTokenAccount, isCounted, share, holdings, balance, tokenAccountLength}
+use Rattle.account.specs.Indexes.{keyAmong, keyAt}
+use Rattle.account.specs.Views.{tableOf, recordsAt}
+use Rattle.account.proofs.Given.{none-given, one-given, table-given, table-refusal}
+use Rattle.account.proofs.Views.{records-of-table}
+use Rattle.account.proofs.Gluing.{table-glued, table-bytes}
+use Rattle.account.proofs.Balances.{token-account-long, holdings-append}
+use Rattle.account.proofs.Lookups.{key-past}
+
+-- ---- the table
+
+-- a malformed table is 13, whatever is wrong with it
+pub every-refusal-of-a-table-is-13 : (s : List ℕ) (r : Answer) → cutTable s ≡ refused r → r ≡ answer badTable
+every-refusal-of-a-table-is-13 s r e = table-refusal s r e
+
+-- records that a table can hold, at most 64, are cut again from the bytes that they are glued to
+pub cutting-what-was-glued-gives-the-records : (l : List Record) → length l ≤ mostRecords → AllStorable l → cutTable (glueTable l) ≡ given l
+cutting-what-was-glued-gives-the-records l few sound = table-glued l few sound
+
+-- a table's records are glued to its bytes
+pub gluing-what-was-cut-gives-the-bytes : (s : List ℕ) (l : List Record) → Bytes s → cutTable s ≡ given l → glueTable l ≡ s
+gluing-what-was-cut-gives-the-bytes s l bytes e = table-bytes s l bytes e
+
+-- the views that cutting answers with name the records of the table, and none where it is malformed
+pub views-name-the-records : (s : List ℕ) → recordsAt s (tableOf (cutTable s)) ≡ recordsOf (cutTable s)
+views-name-the-records s = records-of-table s
+
+-- ---- token accounts and balances
+
+-- a token account has at least 165 bytes of data
+pub a-token-account-has-165-bytes : (r : Record) → isTokenAccount r ≡ true → tokenAccountLength ≤ length (r .payload)
+a-token-account-has-165-bytes r e = token-account-long r e
+
+-- and so has a counted record
+pub a-counted-record-has-165-bytes : (vault : List ℕ) (r : Record) → isCounted vault r ≡ true → tokenAccountLength ≤ length (r .payload)
+unfolding isCounted
+a-counted-record-has-165-bytes vault r e = token-account-long r (and-eq-true-iff (isTokenAccount r) _ .0 e .0)
+
+module _ (vault mint : List ℕ) where
+  -- the balance of two tables' records one after the other is the capped sum of theirs
+  pub balance-append : (l m : List Record) → balance vault mint (l ++ m) ≡ cappedSum (balance vault mint l) (balance vault mint m)
+  unfolding balance cappedSum
+  balance-append l m = rw (holdings-append vault mint l m) (omega arith)
+
+  holdings-order : {l m : List Record} → List·Permᴰ l m → holdings vault mint l ≡ holdings vault mint m
+  unfolding holdings
+  holdings-order List·Permᴰ·nil = refl
+  holdings-order (List·Permᴰ·cons e d) = rw (e, holdings-order d)
+  holdings-order (List·Permᴰ·swap p q) = rw (p, q) (omega arith)
+  holdings-order (List·Permᴰ·trans d e) = holdings-order d ∙ holdings-order e
+
+  -- the order of records does not matter
+  pub the-order-of-records-does-not-matter : {l m : List Record} → List·Permᴰ l m → balance vault mint l ≡ balance vault mint m
+  unfolding balance
+  the-order-of-records-does-not-matter d = rw (holdings-order d)
+
+  -- a record that is not counted adds nothing
+  pub a-record-not-counted-adds-nothing : (r : Record) (l : List Record) → isCounted vault r ≡ false → balance vault mint (r ∷ l) ≡ balance vault mint l
+  unfolding balance holdings share
+  a-record-not-counted-adds-nothing r l e = rw e (omega arith)
+
+  -- a balance is at most 2^64 - 1
+  pub a-balance-is-capped : (l : List Record) → balance vault mint l ≤ highest
+  unfolding balance
+  a-balance-is-capped l = omega arith
+
+-- ---- lookup
+
+key-lengths : (n : ℕ) (s : List ℕ) (l : List Record) (i : ℕ) → cutRecords n s ≡ given l → i < length l → length (keyAmong l i) ≡ 32
+unfolding keyAmong
+key-lengths zero s l i e h = let (_, none) = none-given s l e in absurd (not-suc-le-zero (rw none at h))
+key-lengths (suc n) s l zero e h =
+    let g = one-given n s l e in
+    let inside = g .is-first .within in
+    rw (g .all, g .is-first .key-is) (length-take-le 32 s (omega arith))
+key-lengths (suc n) s l (suc i) e h =
+    let g = one-given n s l e in
+    rw (g .all) (key-lengths n (g .one .rest) (g .others) i (g .rest-given) (le-of-suc-le-suc (rw (g .all) at h)))
+
+-- a lookup gives 32 bytes exactly where the table is sound and the index below its count
+pub a-lookup-gives-32-bytes-exactly-below-the-count : (s : List ℕ) (i : ℕ) → (length (keyAt s i) ≡ 32) ↔ (i < length (recordsOf (cutTable s)))
+unfolding keyAt
+a-lookup-gives-32-bytes-exactly-below-the-count s i = (only (ltb i (length (recordsOf (cutTable s)))) refl, there (cutTable s) refl)
+  where
+    only : (t : Bool) → ltb i (length (recordsOf (cutTable s))) ≡ t → length (keyAmong (recordsOf (cutTable s)) i) ≡ 32 → i < length (recordsOf (cutTable s))
+    only true e h = ltb-true _ _ e
+    only false e h =
+        let none : length (keyAmong (recordsOf (cutTable s)) i) ≡ 0 = ap (λ (k : List ℕ). length k) (key-past (recordsOf (cutTable s)) i (ltb-false _ _ e)) in
+        absurd (omega arith)
+
+    there : (x : Refusable (List Record)) → cutTable s ≡ x → i < length (recordsOf x) → length (keyAmong (recordsOf x) i) ≡ 32
+    there (given l) e h = key-lengths (number _) _ l i (table-given s l e .records-given) h
+    there (refused r) e h = absurd (not-suc-le-zero h)

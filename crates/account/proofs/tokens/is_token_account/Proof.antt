@@ -1,0 +1,67 @@
+-- `account::tokens::is_token_account` meets its contract: each test is one of the definition's.
+-- Assumes nothing.
+use mathlib.Core.Path.{sym, _∙_}
+use Prim.Native.Nat.{_<_, _≤_}
+use native.Mathlib.Omega.{arith}
+use lib.ListN.{length}
+use Rattle.account.specs.Views.{recordAt}
+use Rattle.account.proofs.Balances.{no-token-account, spl-account, not-spl-account}
+use borrow.Author.Needs.{needs}
+use Rattle.account.proofs.tokens.is_token_account.Statement.{statement}
+use Rattle.account.proofs.tokens.is_token_account.Tie as tie
+
+record-payload-requires : tie.Need-record-payload-requires
+record-payload-requires c κs = search needs
+
+returns : tie.Need-returns
+returns c =
+    let start = c .before .before .before .args in
+    let r = recordAt (start .table .now) (start .view) in
+    let short : length (r .payload) < 165 = rw (← c .before .record-payload .ensures) (omega arith) in
+    sym (no-token-account r short)
+
+record-owner-requires : tie.Need-record-owner-requires
+record-owner-requires c κs = search needs
+
+slice-aggregate-same-key : tie.Need-slice-aggregate-same-key
+slice-aggregate-same-key c = search needs
+
+same-key-requires : tie.Need-same-key-requires
+same-key-requires c κs = search needs
+
+returns-2 : tie.Need-returns-2
+returns-2 c =
+    let start = c .before .before .before .before .before .before .before .args in
+    let r = recordAt (start .table .now) (start .view) in
+    let long : 165 ≤ length (r .payload) = rw (← c .before .before .before .before .before .record-payload .ensures) (omega arith) in
+    let owner = c .before .before .before .record-owner in
+    sym (spl-account r long (rw (owner .ensures) at (sym (c .before .same-key .ensures) ∙ c .if2 .taken)))
+
+slice-aggregate-same-key-2 : tie.Need-slice-aggregate-same-key-2
+slice-aggregate-same-key-2 c = search needs
+
+same-key-requires-2 : tie.Need-same-key-requires-2
+same-key-requires-2 c κs = search needs
+
+returns-3 : tie.Need-returns-3
+returns-3 c =
+    let before = c .before .before .before in
+    let start = before .before .before .before .before .before .before .args in
+    let r = recordAt (start .table .now) (start .view) in
+    let long : 165 ≤ length (r .payload) = rw (← before .before .before .before .before .record-payload .ensures) (omega arith) in
+    let owner = before .before .before .record-owner in
+    c .same-key2 .ensures ∙ rw (owner .ensures) (sym (not-spl-account r long (rw (owner .ensures) at (sym (before .same-key .ensures) ∙ c .before .before .if2 .left))))
+
+pub is-token-account-spec : {M : Type 1} → statement M
+is-token-account-spec =
+    tie.close
+    (tie.spec
+    record-payload-requires
+    returns
+    record-owner-requires
+    slice-aggregate-same-key
+    same-key-requires
+    returns-2
+    slice-aggregate-same-key-2
+    same-key-requires-2
+    returns-3)

@@ -1,0 +1,4 @@
+pub mod Table
+pub mod Tokens
+pub mod Indexes
+pub mod Views

@@ -1,0 +1,63 @@
+-- Token accounts: which records are counted, and a mint's balance over them.
+-- Assumes nothing.
+use Prim.Native.Nat.{ℕ, _+_, min}
+use mathlib.Core.Bool.{Bool, cond, _&&_, _||_}
+use mathlib.Core.List.{List, [], _∷_}
+use lib.Dec.{leb}
+use lib.ListN.{length, take, drop}
+use Rattle.key.specs.Key.{sameKey}
+use Rattle.number.specs.Number.{numberAt, highest}
+use Rattle.account.specs.Table.{Record}
+
+-- the two token programs
+abbrev pub splToken : List ℕ
+splToken =
+    6 ∷ 221 ∷ 246 ∷ 225 ∷ 215 ∷ 101 ∷ 161 ∷ 147 ∷ 217 ∷ 203 ∷ 225 ∷ 70 ∷ 206 ∷ 235 ∷ 121 ∷ 172
+    ∷ 28 ∷ 180 ∷ 133 ∷ 237 ∷ 95 ∷ 91 ∷ 55 ∷ 145 ∷ 58 ∷ 140 ∷ 245 ∷ 133 ∷ 126 ∷ 255 ∷ 0 ∷ 169 ∷ []
+
+abbrev pub token2022 : List ℕ
+token2022 =
+    6 ∷ 221 ∷ 246 ∷ 225 ∷ 238 ∷ 117 ∷ 143 ∷ 222 ∷ 170 ∷ 164 ∷ 12 ∷ 4 ∷ 223 ∷ 116 ∷ 174 ∷ 240
+    ∷ 70 ∷ 137 ∷ 163 ∷ 89 ∷ 77 ∷ 149 ∷ 128 ∷ 12 ∷ 61 ∷ 73 ∷ 196 ∷ 253 ∷ 210 ∷ 164 ∷ 82 ∷ 159 ∷ []
+
+-- the bytes of a token account, at least
+abbrev pub tokenAccountLength : ℕ
+tokenAccountLength = 165
+
+-- whether a record is a token account
+unfoldable pub isTokenAccount : Record → Bool
+isTokenAccount r =
+    (sameKey (r .owner) splToken || sameKey (r .owner) token2022) && leb tokenAccountLength (length (r .payload))
+
+-- the mint of a token account's data: 0..32
+abbrev pub mintOf : Record → List ℕ
+mintOf r = take 32 (r .payload)
+
+-- whose account it is: 32..64
+abbrev pub holderOf : Record → List ℕ
+holderOf r = take 32 (drop 32 (r .payload))
+
+-- its amount: 64..72
+abbrev pub amountOf : Record → ℕ
+amountOf r = numberAt 8 (r .payload) 64
+
+-- whether a record is a token account of the vault
+unfoldable pub isCounted : List ℕ → Record → Bool
+unfolding isTokenAccount
+isCounted vault r = isTokenAccount r && sameKey (holderOf r) vault
+
+-- what a record adds to a mint's balance
+unfoldable pub share : List ℕ → List ℕ → Record → ℕ
+unfolding isCounted
+share vault mint r = cond (isCounted vault r && sameKey (mintOf r) mint) (amountOf r) 0
+
+-- what all counted accounts of a mint hold together
+unfoldable pub holdings : List ℕ → List ℕ → List Record → ℕ
+unfolding share
+holdings vault mint [] = 0
+holdings vault mint (r ∷ l) = share vault mint r + holdings vault mint l
+
+-- a mint's balance
+unfoldable pub balance : List ℕ → List ℕ → List Record → ℕ
+unfolding holdings
+balance vault mint l = min (holdings vault mint l) highest

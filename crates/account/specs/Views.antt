@@ -1,0 +1,63 @@
+-- Where the records of a table lie: the values that the code answers with, each from the records that were cut.
+-- Assumes nothing.
+use Prim.Native.Nat.{ℕ, _+_, _-_}
+use mathlib.Core.Bool.{cond}
+use mathlib.Core.List.{List, [], _∷_, _++_, map}
+use lib.Dec.{leb}
+use lib.ListN.{length, take, drop, replicate}
+use Rattle.answer.specs.Numbers.{answer, accepted}
+use Rattle.answer.specs.declared.Answer.{Answer}
+use Rattle.answer.specs.Refusable.{Refusable, given, refused}
+use Rattle.account.specs.declared.RecordView.{RecordView}
+use Rattle.account.specs.declared.parse.RecordRead.{RecordRead}
+use Rattle.account.specs.declared.parse.RecordRead.the-variants.{View, Refused}
+use Rattle.account.specs.declared.Table.{Table}
+use Rattle.account.specs.Table.{Record, firstRecord, tableHeader, recordHeader, mostRecords}
+
+-- the view of a record that starts at a place
+unfoldable pub viewAt : ℕ → Record → RecordView
+viewAt place r = record { at = place; len = length (r .payload) }
+
+-- the views of a row of records, the first at a place
+unfoldable pub placed : ℕ → List Record → List RecordView
+unfolding viewAt
+placed place [] = []
+placed place (r ∷ l) = viewAt place r ∷ placed (place + recordHeader + length (r .payload)) l
+
+-- what stands past the last view
+abbrev pub zeroView : RecordView
+zeroView = record { at = 0; len = 0 }
+
+-- what reading the record at a place answers
+unfoldable pub readAt : List ℕ → ℕ → RecordRead
+unfolding viewAt
+readAt s at = elim (firstRecord (drop at s)) [ given f ↦ View (viewAt at (f .first)) | refused r ↦ Refused r ]
+
+-- the number of a read's answer
+abbrev pub readAnswer : RecordRead → Answer
+readAnswer (View v) = answer accepted
+readAnswer (Refused r) = r
+
+-- a table's views: those of the records that were cut, and none where it was refused
+unfoldable pub tableOf : Refusable (List Record) → Table
+unfolding placed
+tableOf (given l) = record { answer = answer accepted; views = placed tableHeader l ++ replicate (mostRecords - length l) zeroView; count = length l }
+tableOf (refused r) = record { answer = r; views = replicate 64 zeroView; count = 0 }
+
+-- the `len` bytes at a place, nothing where they are not all there
+unfoldable pub partAt : List ℕ → ℕ → ℕ → List ℕ
+partAt s at len = cond (leb (at + len) (length s)) (take len (drop at s)) []
+
+-- the record that a view names
+unfoldable pub recordAt : List ℕ → RecordView → Record
+unfolding partAt
+recordAt s v = record { key = partAt (drop (v .at) s) 0 32; owner = partAt (drop (v .at) s) 32 32; payload = partAt (drop (v .at) s) recordHeader (v .len) }
+
+-- the views that are counted
+unfoldable pub viewsIn : Table → List RecordView
+viewsIn t = take (t .count) (t .views)
+
+-- the records that the counted views name
+unfoldable pub recordsAt : List ℕ → Table → List Record
+unfolding recordAt viewsIn
+recordsAt s t = map (recordAt s) (viewsIn t)

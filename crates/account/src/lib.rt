@@ -1,0 +1,28 @@
+// The account table: cutting it into views of its records, what a view names, token accounts and
+// balances, and indexes into it. Any bytes get an answer.
+pub mod fields;
+pub mod indexes;
+pub mod parse;
+mod programs;
+pub mod tokens;
+
+use answer::Answer;
+
+pub const TABLE_HEADER_SIZE: usize = 2;
+
+pub const RECORD_HEADER_SIZE: usize = 68;
+
+pub const MAX_RECORDS: usize = 64;
+
+// A record of a table: where it starts and how long its data is.
+pub struct RecordView {
+    pub at: usize,
+    pub len: usize,
+}
+
+// A table's records in order; past the count, and on a refusal everywhere, stands the zero view.
+pub struct Table {
+    pub answer: Answer,
+    pub views: [RecordView; 64],
+    pub count: usize,
+}

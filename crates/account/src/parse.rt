@@ -1,0 +1,109 @@
+// Cutting a table into views of its records, in one pass over their headers.
+use crate::MAX_RECORDS;
+use crate::RECORD_HEADER_SIZE;
+use crate::RecordView;
+use crate::TABLE_HEADER_SIZE;
+use crate::Table;
+use answer::ACCEPTED;
+use answer::Answer;
+use answer::BAD_TABLE;
+ghost use mathlib.Core.Path.{_≡_};
+ghost use Rattle.answer.specs.Numbers.{answer as answerOf, badTable};
+ghost use Rattle.answer.specs.Refusable.{refused as Refused};
+ghost use Rattle.account.specs.Table.{cutTable};
+ghost use Rattle.account.specs.Views.{readAt, readAnswer, tableOf, zeroView};
+
+// What reading a record answers.
+enum RecordRead {
+    View(RecordView),
+    Refused(Answer),
+}
+
+const DATA_LENGTH_PLACE: usize = 64;
+
+fn past_the_end() -> RecordRead
+    ensures { λ r. ⌜ r ≡ RecordRead.Refused (answerOf badTable) ⌝ }
+{
+    RecordRead::Refused(Answer::of(BAD_TABLE))
+}
+
+// The view of the record that starts at `at`; refused where its header or its data passes the end.
+fn read_record(table: &[u8], at: usize) -> RecordRead
+    ensures { λ r. ⌜ r ≡ readAt (now (table .entry)) at ⌝ }
+{
+    if table.len() < at {
+        return past_the_end();
+    }
+    let left = table.len() - at;
+    if left < RECORD_HEADER_SIZE {
+        return past_the_end();
+    }
+    let len = number::read_u32(table, at + DATA_LENGTH_PLACE) as usize;
+    if left - RECORD_HEADER_SIZE < len {
+        return past_the_end();
+    }
+    RecordRead::View(RecordView { at, len })
+}
+
+// The refusal of a read's answer, or acceptance.
+fn read_answer(read: RecordRead) -> Answer
+    ensures { λ r. ⌜ r ≡ readAnswer read ⌝ }
+{
+    match read {
+        RecordRead::View(_) => Answer::of(ACCEPTED),
+        RecordRead::Refused(answer) => answer,
+    }
+}
+
+impl RecordView {
+    fn zero() -> Self
+        ensures { λ r. ⌜ r ≡ zeroView ⌝ }
+    {
+        RecordView { at: 0, len: 0 }
+    }
+}
+
+impl Table {
+    // A refusal has no views.
+    fn refused(answer: Answer) -> Self
+        ensures { λ r. ⌜ r ≡ tableOf (Refused answer) ⌝ }
+    {
+        Table {
+            answer,
+            views: [RecordView::zero(); 64],
+            count: 0,
+        }
+    }
+}
+
+pub fn cut_table(table: &[u8]) -> Table
+    ensures { λ r. ⌜ r ≡ tableOf (cutTable (now (table .entry))) ⌝ }
+{
+    if table.len() < TABLE_HEADER_SIZE {
+        return Table::refused(Answer::of(BAD_TABLE));
+    }
+    let counted = number::read_u16(table, 0) as usize;
+    if MAX_RECORDS < counted {
+        return Table::refused(Answer::of(BAD_TABLE));
+    }
+    let mut views = [RecordView::zero(); 64];
+    let mut count = 0;
+    let mut at = TABLE_HEADER_SIZE;
+    while count < counted {
+        let read = read_record(table, at);
+        let RecordRead::View(view) = read else {
+            return Table::refused(read_answer(read));
+        };
+        views[count] = view;
+        count += 1;
+        at = view.at + RECORD_HEADER_SIZE + view.len;
+    }
+    if at < table.len() {
+        return Table::refused(Answer::of(BAD_TABLE));
+    }
+    Table {
+        answer: Answer::of(ACCEPTED),
+        views,
+        count,
+    }
+}

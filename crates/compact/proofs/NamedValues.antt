@@ -1,0 +1,11 @@
+-- The named values of compact instructions hold, by computation.
+-- Assumes nothing.
+use mathlib.Core.Path.{refl}
+use Rattle.answer.specs.NamedValue.{AsNamed}
+use Rattle.number.specs.Number.{number, bytesOf}
+use Rattle.compact.specs.Compact.{mostInstructions, encodeOne, byte, front, decodeOne, decodeEach, decode, placedOne, placed, zeroEntry, entriesOf, entriesIn, refused, reading}
+use Rattle.compact.specs.NamedValues.{namedValues}
+
+pub as-named : AsNamed namedValues
+unfolding namedValues mostInstructions encodeOne byte front decodeOne decodeEach decode placedOne placed zeroEntry entriesOf entriesIn refused reading number bytesOf
+as-named = (refl, (refl, (refl, tt)))

@@ -1,0 +1,104 @@
+-- What is promised of compact instructions, each a sentence over the definitions.
+-- Assumes nothing.
+use Prim.Native.Nat.{ℕ, zero, suc, _+_, _<_, _≤_}
+use mathlib.Core.Path.{_≡_, refl, sym, ap, _∙_, subst}
+use mathlib.Core.Bool.{true}
+use mathlib.Core.List.{List, _++_}
+use mathlib.Core.Option.{none, some, Option·some-injective}
+use native.Mathlib.Omega.{arith}
+use lib.ListN.{length, take, drop}
+use Rattle.answer.specs.Numbers.{answer, accepts, accepted}
+use Rattle.answer.specs.Outcome.{one-outcome}
+use Rattle.number.specs.Number.{Bytes}
+use Rattle.compact.specs.declared.Entries.{Entries}
+use Rattle.compact.specs.declared.Parsed.{Parsed}
+use Rattle.compact.specs.Compact.{Instruction, Writable, BeginsWithAList, mostInstructions, Read, encode, decodeOne, decode, placed, entriesOf, listOf, reading, encodable, writing, outputAfter}
+use Rattle.compact.proofs.Format.{one-extends, each-extends, needs-all, decode-count}
+use Rattle.compact.proofs.Writing.{written}
+use Rattle.compact.proofs.Places.{encoded-means, encodable-means}
+use Rattle.compact.proofs.Lists.{decoded, decode-encoded, short, encoded-again, decoded-writable, each-bytes, reading-encoded, accepted-begins, GivenAgain, encoded-given-again, accepted-written}
+
+pub decode-encode : (is : List Instruction) (rest : List ℕ) → Writable is → decode (encode is ++ rest) ≡ some (record { value = is; rest = rest })
+decode-encode is rest h = decode-encoded is rest (h .few) (short is (h .each))
+
+pub encode-decode : (bytes : List ℕ) (r : Read (List Instruction)) → Bytes bytes → decode bytes ≡ some r → encode (r .value) ++ r .rest ≡ bytes
+encode-decode = encoded-again
+
+pub what-was-decoded-is-writable : (bytes : List ℕ) (r : Read (List Instruction)) → Bytes bytes → decode bytes ≡ some r → Writable (r .value)
+what-was-decoded-is-writable = decoded-writable
+
+pub what-is-encoded-is-bytes : (is : List Instruction) → Writable is → Bytes (encode is)
+unfolding encode mostInstructions
+what-is-encoded-is-bytes is h zero = omega (arith, h .few)
+what-is-encoded-is-bytes is h (suc j) = each-bytes is (h .each) j
+
+-- no two lists share an encoding, and none is the beginning of another's
+pub bytes-begin-with-one-list-alone : (is js : List Instruction) (xs ys : List ℕ) → Writable is → Writable js
+    → encode is ++ xs ≡ encode js ++ ys → (is ≡ js) × (xs ≡ ys)
+bytes-begin-with-one-list-alone is js xs ys hi hj e =
+    let same = Option·some-injective _ _ (sym (decode-encode is xs hi) ∙ ap decode e ∙ decode-encode js ys hj) in
+    (ap (λ (r : Read (List Instruction)). r .value) same, ap (λ (r : Read (List Instruction)). r .rest) same)
+
+pub reading-what-was-encoded : (is : List Instruction) (rest : List ℕ) → Writable is
+    → reading (encode is ++ rest) ≡ record { answer = answer accepted; entries = entriesOf (placed 1 is); consumed = length (encode is) }
+reading-what-was-encoded is rest h = reading-encoded is rest (h .few) (short is (h .each))
+
+pub what-reading-accepts-begins-with-a-list : (bytes : List ℕ) → Bytes bytes → accepts (reading bytes .answer) ≡ true → BeginsWithAList bytes
+what-reading-accepts-begins-with-a-list = accepted-begins
+
+pub writing-what-was-read-gives-the-consumed-bytes : (bytes out : List ℕ) → Bytes bytes → accepts (reading bytes .answer) ≡ true
+    → reading bytes .consumed ≤ length out
+    → (writing (reading bytes .entries) bytes out ≡ record { answer = answer accepted; written = reading bytes .consumed })
+    × (outputAfter (reading bytes .entries) bytes out ≡ take (reading bytes .consumed) bytes ++ drop (reading bytes .consumed) out)
+writing-what-was-read-gives-the-consumed-bytes bytes out hb h =
+    let a = accepted-begins bytes hb h in
+    subst (λ (s : List ℕ). GivenAgain s out) (sym (a .split)) (encoded-given-again (a .is) (a .rest) out (a .writable))
+
+pub reading-what-was-written-gives-the-same-list : (l : Entries) (source out : List ℕ) → accepts (writing l source out .answer) ≡ true
+    → (reading (outputAfter l source out) .answer ≡ answer accepted)
+    × (reading (outputAfter l source out) .consumed ≡ writing l source out .written)
+    × (listOf (outputAfter l source out) (reading (outputAfter l source out) .entries) ≡ listOf source l)
+reading-what-was-written-gives-the-same-list l source out h =
+    let (keeps, room) = accepted-written l source out h in
+    let is = listOf source l in
+    let rest = drop (length (encode is)) out in
+    let done = written l source out keeps room in
+    let limits = encodable-means source l keeps in
+    let all = reading-encoded is rest (limits .0) (limits .1) in
+    rw (← (done .0), ← (done .1), all) (refl, refl, encoded-means is rest)
+
+-- entries that mean the same list are written as the same bytes
+pub the-same-list-is-written-alike : (l m : Entries) (source other out : List ℕ) → listOf source l ≡ listOf other m → encodable other m ≡ true
+    → accepts (writing l source out .answer) ≡ true
+    → (writing l source out ≡ writing m other out) × (outputAfter l source out ≡ outputAfter m other out)
+the-same-list-is-written-alike l m source other out same hm h =
+    let (hl, room) = accepted-written l source out h in
+    let one = written l source out hl room in
+    let two = written m other out hm (rw (← same) room) in
+    (sym (one .0) ∙ rw same (two .0), sym (one .1) ∙ rw same (two .1))
+
+-- whatever meets the contract of reading gives one list and one count of bytes consumed
+pub reading-determines-the-list-and-the-count : (bytes : List ℕ) (p q : Parsed) → p ≡ reading bytes → q ≡ reading bytes
+    → (listOf bytes (p .entries) ≡ listOf bytes (q .entries)) × (p .consumed ≡ q .consumed)
+reading-determines-the-list-and-the-count bytes p q hp hq =
+    let same = one-outcome hp hq in
+    (ap (λ (r : Parsed). listOf bytes (r .entries)) same, ap (λ (r : Parsed). r .consumed) same)
+
+-- for a reader that takes the bytes in pieces: one instruction, and the list
+pub more-bytes-do-not-change-the-first-instruction : (bytes more : List ℕ) (r : Read Instruction) → decodeOne bytes ≡ some r
+    → decodeOne (bytes ++ more) ≡ some (record { value = r .value; rest = r .rest ++ more })
+more-bytes-do-not-change-the-first-instruction = one-extends
+
+pub fewer-bytes-than-the-first-instruction-give-none : (bytes : List ℕ) (r : Read Instruction) (n : ℕ) → decodeOne bytes ≡ some r
+    → n + length (r .rest) < length bytes → decodeOne (take n bytes) ≡ none
+fewer-bytes-than-the-first-instruction-give-none = needs-all decodeOne one-extends
+
+pub more-bytes-do-not-change-the-list : (bytes more : List ℕ) (r : Read (List Instruction)) → decode bytes ≡ some r
+    → decode (bytes ++ more) ≡ some (record { value = r .value; rest = r .rest ++ more })
+more-bytes-do-not-change-the-list bytes more r h =
+    let (count, after, split, few, e) = decoded bytes r h in
+    rw split (decode-count count (after ++ more) few ∙ each-extends count after more r e)
+
+pub fewer-bytes-than-the-list-give-none : (bytes : List ℕ) (r : Read (List Instruction)) (n : ℕ) → decode bytes ≡ some r
+    → n + length (r .rest) < length bytes → decode (take n bytes) ≡ none
+fewer-bytes-than-the-list-give-none = needs-all decode more-bytes-do-not-change-the-list

@@ -1,0 +1,221 @@
+-- Compact instructions: the format, reading and writing.
+-- Assumes nothing.
+use Prim.Native.Nat.{ℕ, zero, suc, _+_, _-_, _<_, _≤_}
+use mathlib.Core.Path.{_≡_}
+use mathlib.Core.Bool.{Bool, true, false, not, cond, _&&_}
+use mathlib.Core.List.{List, [], _∷_, _++_, map}
+use mathlib.Core.Option.{Option, none, some}
+use lib.Dec.{leb, ltb}
+use lib.ListN.{length, take, drop, replicate}
+use Rattle.answer.specs.declared.Answer.{Answer}
+use Rattle.answer.specs.Numbers.{answer, accepts, accepted, invalidInstructionData, noRoom, notEncodable, firstRefusal}
+use Rattle.number.specs.Number.{number, bytesOf, Bytes}
+use Rattle.compact.specs.declared.Range.{Range}
+use Rattle.compact.specs.declared.Entry.{Entry}
+use Rattle.compact.specs.declared.Entries.{Entries}
+use Rattle.compact.specs.declared.Parsed.{Parsed}
+use Rattle.compact.specs.declared.Written.{Written}
+use Rattle.compact.specs.declared.Head.{Head}
+use Rattle.compact.specs.declared.Head.the-variants.{At, Short}
+use Rattle.compact.specs.declared.Size.{Size}
+use Rattle.compact.specs.declared.Size.the-variants.{Of, NotEncodable}
+
+-- an instruction: the index of its program, those of its accounts, its data
+pub record Instruction : Type 0 where
+  pub program : ℕ
+  pub accounts : List ℕ
+  pub payload : List ℕ
+
+-- the most instructions of a list
+unfoldable pub mostInstructions : ℕ
+mostInstructions = 16
+
+-- the most accounts of an instruction
+unfoldable pub mostAccounts : ℕ
+mostAccounts = 255
+
+-- the most bytes of an instruction's data
+unfoldable pub mostPayload : ℕ
+mostPayload = 65535
+
+-- an instruction as bytes: program index (1), number of accounts (1), that many indexes, data length (2), data
+unfoldable pub encodeOne : Instruction → List ℕ
+encodeOne i = i .program ∷ length (i .accounts) ∷ i .accounts ++ bytesOf 2 (length (i .payload)) ++ i .payload
+
+-- some instructions as bytes, one after the other
+unfoldable pub encodeEach : List Instruction → List ℕ
+encodeEach [] = []
+encodeEach (i ∷ is) = encodeOne i ++ encodeEach is
+
+-- a list as bytes: count (1), then each instruction
+unfoldable pub encode : List Instruction → List ℕ
+encode is = length is ∷ encodeEach is
+
+-- each of some elements is as asked
+abbrev pub Each : {A : Type 0} → (A → Type 0) → List A → Type 0
+Each P [] = Unit {0}
+Each P (x ∷ xs) = P x × Each P xs
+
+-- an instruction of bytes that keeps the writer's limits
+pub record WritableOne (i : Instruction) : Type 0 where
+  pub program : i .program < 256
+  pub indexes : Bytes (i .accounts)
+  pub bytes : Bytes (i .payload)
+  pub few : length (i .accounts) ≤ mostAccounts
+  pub short : length (i .payload) ≤ mostPayload
+
+-- a list of such instructions that keeps the limit of instructions
+pub record Writable (is : List Instruction) : Type 0 where
+  pub few : length is ≤ mostInstructions
+  pub each : Each WritableOne is
+
+-- bytes that begin with the encoding of such a list
+pub record BeginsWithAList (bytes : List ℕ) : Type 0 where
+  pub is : List Instruction
+  pub rest : List ℕ
+  pub split : bytes ≡ encode is ++ rest
+  pub writable : Writable is
+
+-- what was read at the front of some bytes, and the bytes after it
+pub record Read (A : Type 0) : Type 0 where
+  pub value : A
+  pub rest : List ℕ
+
+-- one step of reading after another: a step that finds nothing ends it
+infixl 20 _>>=_
+abbrev pub _>>=_ : {A B : Type 0} → Option A → (A → Option B) → Option B
+none >>= f = none
+some a >>= f = f a
+
+-- the first byte, or nothing where there is none
+unfoldable pub byte : List ℕ → Option (Read ℕ)
+byte [] = none
+byte (b ∷ bytes) = some (record { value = b; rest = bytes })
+
+-- the first `size` bytes, or nothing where they are not all there
+unfoldable pub front : ℕ → List ℕ → Option (Read (List ℕ))
+front size bytes = elim (leb size (length bytes)) [ true ↦ some (record { value = take size bytes; rest = drop size bytes }) | false ↦ none ]
+
+-- the first instruction of some bytes, or nothing where any part of it is past the end
+unfoldable pub decodeOne : List ℕ → Option (Read Instruction)
+decodeOne bytes = do
+  program ← byte bytes
+  count ← byte (program .rest)
+  accounts ← front (count .value) (count .rest)
+  size ← front 2 (accounts .rest)
+  payload ← front (number (size .value)) (size .rest)
+  some (record { value = record { program = program .value; accounts = accounts .value; payload = payload .value }; rest = payload .rest })
+
+-- so many instructions, one after the other
+unfoldable pub decodeEach : ℕ → List ℕ → Option (Read (List Instruction))
+decodeEach zero bytes = some (record { value = []; rest = bytes })
+decodeEach (suc count) bytes = do
+  first ← decodeOne bytes
+  more ← decodeEach count (first .rest)
+  some (record { value = first .value ∷ more .value; rest = more .rest })
+
+-- the list at the front of some bytes, or nothing where they are empty, the count is above the limit, or any part is past the end
+unfoldable pub decode : List ℕ → Option (Read (List Instruction))
+decode bytes = do
+  count ← byte bytes
+  elim (leb (count .value) mostInstructions) [ true ↦ decodeEach (count .value) (count .rest) | false ↦ none ]
+
+-- the bytes of a source that a range names
+unfoldable pub part : List ℕ → Range → List ℕ
+part source r = take (r .len) (drop (r .start) source)
+
+-- the instruction that an entry means over a source
+unfoldable pub meant : List ℕ → Entry → Instruction
+meant source e = record { program = e .program; accounts = part source (e .accounts); payload = part source (e .payload) }
+
+-- the entry of an instruction whose encoding begins at a place
+unfoldable pub placedOne : ℕ → Instruction → Entry
+placedOne at i =
+    record {
+      program = i .program;
+      accounts = record { start = at + 2; len = length (i .accounts) };
+      payload = record { start = at + 2 + length (i .accounts) + 2; len = length (i .payload) };
+    }
+
+-- the entries of some instructions whose encodings follow one another from a place
+unfoldable pub placed : ℕ → List Instruction → List Entry
+placed at [] = []
+placed at (i ∷ is) = placedOne at i ∷ placed (at + length (encodeOne i)) is
+
+-- the entry of zeros, which stands past the last
+unfoldable pub zeroEntry : Entry
+zeroEntry = record { program = 0; accounts = record { start = 0; len = 0 }; payload = record { start = 0; len = 0 } }
+
+-- a list of some entries, with zeros past the last
+unfoldable pub entriesOf : List Entry → Entries
+entriesOf es = record { list = es ++ replicate (mostInstructions - length es) zeroEntry; count = length es }
+
+-- the refusal of reading: no list, nothing consumed
+unfoldable pub refused : Parsed
+refused = record { answer = answer invalidInstructionData; entries = entriesOf []; consumed = 0 }
+
+-- reading: the entries of the list at the front, which begins after the count, and the bytes consumed
+unfoldable pub reading : List ℕ → Parsed
+reading bytes =
+    elim (decode bytes) [
+      | none ↦ refused
+      | some d ↦ record { answer = answer accepted; entries = entriesOf (placed 1 (d .value)); consumed = length bytes - length (d .rest) }
+    ]
+
+-- the entries that a list holds
+unfoldable pub entriesIn : Entries → List Entry
+entriesIn l = take (l .count) (l .list)
+
+-- the instructions that they mean over a source
+unfoldable pub listOf : List ℕ → Entries → List Instruction
+listOf source l = map (meant source) (entriesIn l)
+
+-- whether a range lies within a source: its start plus its length does not pass the end
+unfoldable pub within : List ℕ → Range → Bool
+within source r = leb (r .start + r .len) (length source)
+
+-- whether an entry keeps the writer's limits
+unfoldable pub encodableOne : List ℕ → Entry → Bool
+encodableOne source e =
+    leb (e .accounts .len) mostAccounts && leb (e .payload .len) mostPayload && within source (e .accounts) && within source (e .payload)
+
+-- whether each of some entries does
+unfoldable pub encodableEach : List ℕ → List Entry → Bool
+encodableEach source [] = true
+encodableEach source (e ∷ es) = encodableOne source e && encodableEach source es
+
+-- whether a list keeps the writer's limits
+unfoldable pub encodable : List ℕ → Entries → Bool
+encodable source l = leb (l .count) mostInstructions && encodableEach source (entriesIn l)
+
+-- a rule: the refusal n where it is broken
+abbrev pub refuseIf : Bool → ℕ → Answer
+refuseIf broken n = answer (cond broken n accepted)
+
+-- the answer to writing: first the limits, then the room
+unfoldable pub writingAnswer : Entries → List ℕ → List ℕ → Answer
+writingAnswer l source out =
+    firstRefusal
+    (refuseIf (not (encodable source l)) notEncodable
+    ∷ refuseIf (ltb (length out) (length (encode (listOf source l)))) noRoom
+    ∷ [])
+
+-- writing: the answer and the bytes written, none on a refusal
+unfoldable pub writing : Entries → List ℕ → List ℕ → Written
+writing l source out =
+    record { answer = writingAnswer l source out; written = cond (accepts (writingAnswer l source out)) (length (encode (listOf source l))) 0 }
+
+-- the output afterwards: the encoding, then the rest as it was; all of it as it was on a refusal
+unfoldable pub outputAfter : Entries → List ℕ → List ℕ → List ℕ
+outputAfter l source out =
+    cond (accepts (writingAnswer l source out)) (encode (listOf source l) ++ drop (length (encode (listOf source l))) out) out
+
+-- the code's answer to reading one instruction at a place: its entry and the place after it
+unfoldable pub headOf : ℕ → Option (Read Instruction) → Head
+headOf at none = Short
+headOf at (some d) = At (placedOne at (d .value)) (at + length (encodeOne (d .value)))
+
+-- the code's answer to sizing what is to be written: the size where the limits are kept
+unfoldable pub sizeIf : Bool → ℕ → Size
+sizeIf true size = Of size
+sizeIf false size = NotEncodable
