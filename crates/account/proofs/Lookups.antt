@@ -1,6 +1,6 @@
 -- Laws of indexes: the key at one, whether all are below a count, and what resolving answers.
 -- Assumes nothing.
-use mathlib.Core.Path.{_≡_, refl, ap, _∙_}
+use mathlib.Core.Path.{_≡_, ap, _∙_}
 use mathlib.Core.Bool.{true, false, not, _&&_, and-false}
 use mathlib.Core.List.{List, [], _∷_, map}
 use Prim.Native.Nat.{ℕ, zero, suc, _<_, _≤_}
@@ -10,14 +10,12 @@ use lib.ListN.{length, getD, drop, length-map, drop-of-length-le, List·getD-eq-
 use lib.Seq.{drop-cons}
 use lib.Dec.{ltb}
 use Rattle.answer.specs.Numbers.{answer, accepts, accepted, refuseIf, invalidInstructionData}
-use Rattle.answer.specs.Refusable.{Refusable, given, refused}
 use Rattle.account.specs.declared.RecordView.{RecordView}
 use Rattle.account.specs.declared.Table.{Table}
 use Rattle.account.specs.Table.{Record, cutTable}
 use Rattle.account.specs.Indexes.{allBelow, resolving, keyAmong, keyAt}
 use Rattle.account.specs.Views.{recordAt, recordsAt, tableOf}
-use Rattle.account.proofs.Views.{records-step, records-of-table}
-use Rattle.account.proofs.Given.{table-refusal}
+use Rattle.account.proofs.Views.{records-step, records-of-table, table-malformed, table-sound, table-count}
 
 -- ---- the key at an index
 
@@ -66,24 +64,13 @@ module _ (count : ℕ) (is : List ℕ) (i : ℕ) where
 
 module _ (s : List ℕ) (program : ℕ) (accounts : List ℕ) (cut : Table) (whole : cut ≡ tableOf (cutTable s)) where
   pub resolve-malformed : accepts (cut .answer) ≡ false → resolving s program accounts ≡ cut .answer
-  unfolding resolving tableOf
-  resolve-malformed h = rw whole (go (cutTable s) refl (rw whole at h))
-    where
-      go : (x : Refusable (List Record)) → cutTable s ≡ x → accepts (tableOf x .answer) ≡ false → resolving s program accounts ≡ tableOf x .answer
-      go (given l) e n = absurd (let z : _≡_ {A = ℕ} 0 1 = cc in omega arith)
-      go (refused r) e n = rw (e, resolving)
+  unfolding resolving
+  resolve-malformed h = rw (table-malformed s cut whole h, resolving)
 
   module _ (sound : accepts (cut .answer) ≡ true) where
     resolve-sound : resolving s program accounts ≡ refuseIf (not (ltb program (cut .count) && allBelow (cut .count) accounts)) invalidInstructionData
-    unfolding resolving tableOf
-    resolve-sound = rw whole (go (cutTable s) refl (rw whole at sound))
-      where
-        go : (x : Refusable (List Record)) → cutTable s ≡ x → accepts (tableOf x .answer) ≡ true
-            → resolving s program accounts ≡ refuseIf (not (ltb program (tableOf x .count) && allBelow (tableOf x .count) accounts)) invalidInstructionData
-        go (given l) e n = rw (e, resolving)
-        go (refused r) e n =
-            let bad : accepts r ≡ false = rw (table-refusal s r e) in
-            absurd (let z : _≡_ {A = ℕ} 0 1 = cc in omega arith)
+    unfolding resolving
+    resolve-sound = rw (table-sound s cut whole sound, resolving, table-count s cut whole)
 
     pub resolve-bad-program : cut .count ≤ program → resolving s program accounts ≡ answer invalidInstructionData
     resolve-bad-program h = resolve-sound ∙ rw (le-ltb _ _ h)

@@ -19,7 +19,7 @@ module _ {A : Type 0} where
   chosen-refused true x q r first e = first e
   chosen-refused false x q r first e = cc
 
-  -- a value and its refusal are never the same
+  -- what is given is no refusal
   pub given-not-refused : (a : A) (q r : Answer) → given a ≡ refused r → r ≡ q
   given-not-refused a q r e = absurd (let z : _≡_ {A = ℕ} 0 1 = cc in omega arith)
 

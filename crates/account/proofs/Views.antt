@@ -1,11 +1,13 @@
 -- Laws of views: the records of the counted views one after the other, and that a table's views name the records that were cut.
 -- Assumes nothing.
 use mathlib.Core.Path.{_≡_, refl, sym, ap, ap₂, _∙_}
+use mathlib.Core.Bool.{true, false}
 use mathlib.Core.List.{List, _∷_, map}
 use Prim.Native.Nat.{ℕ, zero, suc, _+_, _-_, _<_, min}
 use native.Mathlib.Omega.{arith}
 use lib.ListN.{length, getD, take, drop, replicate, length-take, length-map, List·getD-map}
 use lib.Seq.{drop-cons, drop-drop, getD-take, take-at}
+use Rattle.answer.specs.Numbers.{accepts}
 use Rattle.answer.specs.Refusable.{Refusable, given, refused}
 use Rattle.account.specs.declared.RecordView.{RecordView}
 use Rattle.account.specs.declared.Table.{Table}
@@ -14,7 +16,7 @@ use Rattle.account.specs.Views.{viewAt, placed, zeroView, tableOf, partA
 use Rattle.account.proofs.Parts.{part-there}
 use Rattle.account.proofs.Cutting.{IsFirst}
 use Rattle.account.proofs.Parsing.{length-placed}
-use Rattle.account.proofs.Given.{none-given, one-given, table-given}
+use Rattle.account.proofs.Given.{none-given, one-given, table-given, table-refusal}
 
 -- the records of the counted views, one after the other
 pub records-step : (s : List ℕ) (t : Table) (i : ℕ) (d : RecordView) → i < t .count → i < length (t .views)
@@ -64,3 +66,32 @@ views-name s (refused r) e = refl
 
 pub records-of-table : (s : List ℕ) → recordsAt s (tableOf (cutTable s)) ≡ recordsOf (cutTable s)
 records-of-table s = views-name s (cutTable s) refl
+
+-- ---- what a cut table's answer says
+
+module _ (s : List ℕ) (cut : Table) (whole : cut ≡ tableOf (cutTable s)) where
+  pub table-malformed : accepts (cut .answer) ≡ false → cutTable s ≡ refused (cut .answer)
+  unfolding tableOf
+  table-malformed h = rw whole (go (cutTable s) refl (rw whole at h))
+    where
+      go : (x : Refusable (List Record)) → cutTable s ≡ x → accepts (tableOf x .answer) ≡ false → cutTable s ≡ refused (tableOf x .answer)
+      go (given l) e n = absurd (let z : _≡_ {A = ℕ} 0 1 = cc in omega arith)
+      go (refused r) e n = e
+
+  pub table-sound : accepts (cut .answer) ≡ true → cutTable s ≡ given (recordsAt s cut)
+  unfolding tableOf
+  table-sound h = rw whole (go (cutTable s) refl (rw whole at h))
+    where
+      go : (x : Refusable (List Record)) → cutTable s ≡ x → accepts (tableOf x .answer) ≡ true → cutTable s ≡ given (recordsAt s (tableOf x))
+      go (given l) e n = e ∙ ap given (sym (views-name s (given l) e))
+      go (refused r) e n =
+          let bad : accepts r ≡ false = rw (table-refusal s r e) in
+          absurd (let z : _≡_ {A = ℕ} 0 1 = cc in omega arith)
+
+  pub table-count : length (recordsAt s cut) ≡ cut .count
+  unfolding tableOf
+  table-count = rw whole (go (cutTable s) refl)
+    where
+      go : (x : Refusable (List Record)) → cutTable s ≡ x → length (recordsAt s (tableOf x)) ≡ tableOf x .count
+      go (given l) e = ap (λ (m : List Record). length m) (views-name s (given l) e)
+      go (refused r) e = ap (λ (m : List Record). length m) (views-name s (refused r) e)

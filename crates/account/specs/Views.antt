@@ -48,7 +48,7 @@ tableOf (refused r) = record { answer = r; views = replicate 64 zeroView; count 
 unfoldable pub partAt : List ℕ → ℕ → ℕ → List ℕ
 partAt s at len = cond (leb (at + len) (length s)) (take len (drop at s)) []
 
--- the record that a view names
+-- the record that a view names, each part by itself: nothing where it passes the end
 unfoldable pub recordAt : List ℕ → RecordView → Record
 unfolding partAt
 recordAt s v = record { key = partAt (drop (v .at) s) 0 32; owner = partAt (drop (v .at) s) 32 32; payload = partAt (drop (v .at) s) recordHeader (v .len) }

@@ -8,7 +8,7 @@ use mathlib.Core.Option.{Option, none, some}
 use lib.Dec.{leb, ltb}
 use lib.ListN.{length, take, drop, replicate}
 use Rattle.answer.specs.declared.Answer.{Answer}
-use Rattle.answer.specs.Numbers.{answer, accepts, accepted, invalidInstructionData, noRoom, notEncodable, firstRefusal}
+use Rattle.answer.specs.Numbers.{answer, accepts, accepted, invalidInstructionData, noRoom, notEncodable, firstRefusal, refuseIf}
 use Rattle.number.specs.Number.{number, bytesOf, Bytes}
 use Rattle.compact.specs.declared.Range.{Range}
 use Rattle.compact.specs.declared.Entry.{Entry}
@@ -187,10 +187,6 @@ encodableEach source (e ∷ es) = encodableOne source e && encodableEach source 
 -- whether a list keeps the writer's limits
 unfoldable pub encodable : List ℕ → Entries → Bool
 encodable source l = leb (l .count) mostInstructions && encodableEach source (entriesIn l)
-
--- a rule: the refusal n where it is broken
-abbrev pub refuseIf : Bool → ℕ → Answer
-refuseIf broken n = answer (cond broken n accepted)
 
 -- the answer to writing: first the limits, then the room
 unfoldable pub writingAnswer : Entries → List ℕ → List ℕ → Answer

@@ -62,7 +62,7 @@ put-part-requires : tie.Need-put-part-requires
 put-part-requires c κs =
     let at-number = c .before .before .before in
     let r = room (start-of at-number) in
-    (r .keep .accounts, omega (arith, number-kept at-number))
+    omega (arith, number-kept at-number)
 
 put-number-requires-2 : tie.Need-put-number-requires-2
 put-number-requires-2 c κs =
@@ -81,7 +81,7 @@ put-part-requires-2 c κs =
     let at-number2 = c .before .before .before in
     let at-part = part-of at-number2 in
     let r = room (start-of (number-of at-part)) in
-    (r .keep .payload, omega (arith, at-part .put-part .ensures .0, number2-kept at-number2))
+    omega (arith, at-part .put-part .ensures .0, number2-kept at-number2)
 
 same-length : tie.Need-same-length
 same-length c = c .before .before .put-part2 .kept .0 ∙ number2-kept (number2-of (c .before .before))

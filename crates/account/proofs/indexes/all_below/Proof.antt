@@ -28,7 +28,8 @@ cast-if1 c = omega (arith, c .shared-slice-known .given (c .before .before .loop
 returns : tie.Need-returns Inv-loop μ-loop
 returns c =
     let at-loop = c .before .before .before in
-    sym (sym (at-loop .loop .inv .1) ∙ below-found _ _ (at-loop .loop .i) (omega arith) (c .if1 .taken))
+    let start = at-loop .before .args in
+    sym (sym (at-loop .loop .inv .1) ∙ below-found (start .count) (start .indexes .now) (at-loop .loop .i) (omega arith) (omega arith))
 
 add-i : tie.Need-add-i Inv-loop μ-loop
 add-i c = omega arith
@@ -40,7 +41,9 @@ loop-again : tie.Need-loop-again Inv-loop μ-loop
 loop-again c =
     let at-loop = c .before .before .before in
     let i = at-loop .loop .i in
-    (omega arith, rw (add-one i) (sym (below-passed _ _ i (omega arith) (c .if1 .left)) ∙ at-loop .loop .inv .1))
+    let start = at-loop .before .args in
+    let passed = below-passed (start .count) (start .indexes .now) i (omega arith) (omega arith) in
+    (omega arith, rw (add-one i) (sym passed ∙ at-loop .loop .inv .1))
 
 returns-2 : tie.Need-returns-2 Inv-loop μ-loop
 returns-2 c =

@@ -1,0 +1,138 @@
+-- Laws of the freeze, test by test and record by record.
+-- Assumes nothing.
+use mathlib.Core.Path.{_≡_, refl, sym, ap, _∙_}
+use mathlib.Core.Bool.{Bool, true, false, not, _&&_, _||_, and-false}
+use mathlib.Core.List.{List, [], _∷_}
+use mathlib.Core.Option.{Option, none, some}
+use Prim.Native.Nat.{ℕ, suc, _+_, _-_, _<_, _≤_, min}
+use native.Mathlib.Omega.{arith}
+use lib.ListN.{length, getD, take, drop, length-drop, drop-of-length-le}
+use lib.Seq.{take-all, take-nil}
+use Rattle.key.specs.Key.{sameKey, sameBytes}
+use Rattle.key.proofs.Laws.{same-bytes-eq, same-bytes-refl}
+use Rattle.account.specs.declared.RecordView.{RecordView}
+use Rattle.account.specs.declared.Table.{Table}
+use Rattle.account.specs.Table.{Record}
+use Rattle.account.specs.Tokens.{isTokenAccount, isCounted, mintOf}
+use Rattle.account.specs.Views.{recordAt, recordsAt}
+use Rattle.account.proofs.Views.{records-step, length-records}
+use Rattle.judge.specs.Freeze.{firstWithKey, samePart, sameAuthorities, isStill, isFoundStill, keepsFreeze, allFrozen}
+
+-- ---- parts
+
+pub part-none : (s : List ℕ) (at size : ℕ) → length s < at → [] ≡ take size (drop at s)
+part-none s at size h =
+    let past : length s ≤ at = omega arith in
+    sym (ap (take size) (drop-of-length-le s past) ∙ take-nil size)
+
+pub part-short : (s : List ℕ) (at size : ℕ) → at ≤ length s → length s - at < size → take (length s - at) (drop at s) ≡ take size (drop at s)
+part-short s at size h short =
+    let long : length (drop at s) ≤ length s - at = rw (length-drop at s) (omega arith) in
+    let small : length (drop at s) ≤ size = rw (length-drop at s) (omega arith) in
+    take-all (length s - at) (drop at s) long ∙ sym (take-all size (drop at s) small)
+
+-- a comparison that answers true just where two lists are equal
+pub compared : (r : Bool) (a b : List ℕ) → (r ≡ true → a ≡ b) → (a ≡ b → r ≡ true) → r ≡ sameBytes a b
+compared true a b same eq = sym (ap (sameBytes a) (sym (same refl)) ∙ same-bytes-refl a)
+compared false a b same eq = go (sameBytes a b) refl
+  where
+    go : (t : Bool) → sameBytes a b ≡ t → false ≡ t
+    go true e = eq (same-bytes-eq a b e)
+    go false e = refl
+
+pub part-compared : (at size : ℕ) (p q a b : List ℕ) (r : Bool) → a ≡ take size (drop at p) → b ≡ take size (drop at q)
+    → (r ≡ true → a ≡ b) → (a ≡ b → r ≡ true) → r ≡ samePart at size p q
+unfolding samePart
+part-compared at size p q a b r pa qb same eq = rw (← pa, ← qb) (compared r a b same eq)
+
+-- ---- authorities
+
+module _ (p q : List ℕ) where
+  pub owner-changed : samePart 32 32 p q ≡ false → sameAuthorities p q ≡ false
+  unfolding sameAuthorities
+  owner-changed e = rw e
+
+  module _ (o : samePart 32 32 p q ≡ true) where
+    pub delegate-changed : samePart 72 36 p q ≡ false → sameAuthorities p q ≡ false
+    unfolding sameAuthorities
+    delegate-changed e = rw (o, e)
+
+    pub close-authority-decides : samePart 72 36 p q ≡ true → sameAuthorities p q ≡ samePart 129 36 p q
+    unfolding sameAuthorities
+    close-authority-decides e = rw (o, e)
+
+module _ (p : List ℕ) (q : Record) where
+  pub no-account-still : isTokenAccount q ≡ false → isStill p q ≡ false
+  unfolding isStill
+  no-account-still e = rw e
+
+  pub account-still : isTokenAccount q ≡ true → isStill p q ≡ sameAuthorities p (q .payload)
+  unfolding isStill
+  account-still e = rw e
+
+-- ---- the first record with a key
+
+found : (key : List ℕ) (r : Record) (l : List Record) → sameKey (r .key) key ≡ true → firstWithKey key (r ∷ l) ≡ some r
+unfolding firstWithKey
+found key r l e = rw (e, firstWithKey)
+
+passed : (key : List ℕ) (r : Record) (l : List Record) → sameKey (r .key) key ≡ false → firstWithKey key (r ∷ l) ≡ firstWithKey key l
+unfolding firstWithKey
+passed key r l e = rw (e, firstWithKey)
+
+module _ (p key s : List ℕ) (t : Table) (i : ℕ) where
+  module _ (d : RecordView) (hc : i < t .count) (hv : i < length (t .views)) where
+    pub still-found : sameKey ((recordAt s (getD (t .views) i d)) .key) key ≡ true
+        → isFoundStill p (firstWithKey key (drop i (recordsAt s t))) ≡ isStill p (recordAt s (getD (t .views) i d))
+    still-found e = ap (λ (l : List Record). isFoundStill p (firstWithKey key l)) (records-step s t i d hc hv) ∙ ap (isFoundStill p) (found key _ _ e)
+
+    pub still-passed : sameKey ((recordAt s (getD (t .views) i d)) .key) key ≡ false
+        → isFoundStill p (firstWithKey key (drop i (recordsAt s t))) ≡ isFoundStill p (firstWithKey key (drop (suc i) (recordsAt s t)))
+    still-passed e = ap (λ (l : List Record). isFoundStill p (firstWithKey key l)) (records-step s t i d hc hv) ∙ ap (isFoundStill p) (passed key _ _ e)
+
+  pub still-end : min (t .count) (length (t .views)) ≤ i → isFoundStill p (firstWithKey key (drop i (recordsAt s t))) ≡ false
+  unfolding firstWithKey
+  still-end past =
+      let short : length (recordsAt s t) ≤ i = rw (length-records s t) past in
+      rw (drop-of-length-le (recordsAt s t) short)
+
+-- ---- the freeze of one record
+
+module _ (vault : List ℕ) (listed : List ℕ → Bool) (after : List Record) (r : Record) where
+  pub not-counted-frozen : isCounted vault r ≡ false → keepsFreeze vault listed after r ≡ true
+  unfolding keepsFreeze
+  not-counted-frozen e = rw e
+
+  module _ (c : isCounted vault r ≡ true) where
+    pub not-listed-frozen : listed (mintOf r) ≡ false → keepsFreeze vault listed after r ≡ true
+    unfolding keepsFreeze
+    not-listed-frozen e = rw (c, e)
+
+    pub listed-frozen : listed (mintOf r) ≡ true → keepsFreeze vault listed after r ≡ isFoundStill (r .payload) (firstWithKey (r .key) after)
+    unfolding keepsFreeze
+    listed-frozen e = rw (c, e)
+
+-- ---- all records
+
+module _ (vault : List ℕ) (listed : List ℕ → Bool) (after : List Record) (s : List ℕ) (t : Table) (i : ℕ) where
+  module _ (d : RecordView) (hc : i < t .count) (hv : i < length (t .views)) where
+    pub frozen-passed : keepsFreeze vault listed after (recordAt s (getD (t .views) i d)) ≡ true
+        → allFrozen vault listed after (drop i (recordsAt s t)) ≡ allFrozen vault listed after (drop (suc i) (recordsAt s t))
+    unfolding allFrozen
+    frozen-passed e = rw (records-step s t i d hc hv, e)
+
+    pub frozen-broken : keepsFreeze vault listed after (recordAt s (getD (t .views) i d)) ≡ false → allFrozen vault listed after (drop i (recordsAt s t)) ≡ false
+    unfolding allFrozen
+    frozen-broken e = rw (records-step s t i d hc hv, e)
+
+  pub frozen-end : min (t .count) (length (t .views)) ≤ i → allFrozen vault listed after (drop i (recordsAt s t)) ≡ true
+  unfolding allFrozen
+  frozen-end past =
+      let short : length (recordsAt s t) ≤ i = rw (length-records s t) past in
+      rw (drop-of-length-le (recordsAt s t) short)
+
+-- the freeze asks only which mints are listed
+pub frozen-alike : (vault : List ℕ) (f g : List ℕ → Bool) → ((m : List ℕ) → f m ≡ g m) → (after l : List Record) → allFrozen vault f after l ≡ allFrozen vault g after l
+unfolding allFrozen keepsFreeze
+frozen-alike vault f g alike after [] = refl
+frozen-alike vault f g alike after (r ∷ l) = rw (alike (mintOf r), frozen-alike vault f g alike after l)

@@ -1,0 +1,4 @@
+pub mod Freezing
+pub mod Lists
+pub mod Outflow
+pub mod Steps

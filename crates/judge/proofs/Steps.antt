@@ -1,0 +1,317 @@
+-- Laws of the steps: the first refusal decides, and what was cut is what the steps speak of.
+-- Assumes nothing.
+use mathlib.Core.Path.{_≡_, refl, sym, ap, ap₂, _∙_}
+use mathlib.Core.Bool.{Bool, true, false, not, cond}
+use mathlib.Core.List.{List, [], _∷_, _++_, map}
+use mathlib.Core.Option.{Option, none, some}
+use Prim.Native.Nat.{ℕ, _+_, _-_, _<_, _≤_, min}
+use native.Mathlib.Omega.{arith}
+use borrow.Author.Tests.{eq-eqb, ne-eqb}
+use lib.Dec.{eqb, lit<}
+use lib.ListN.{length, take, replicate, length-append, length-map}
+use Rattle.answer.specs.declared.Answer.{Answer}
+use Rattle.answer.specs.Numbers.{answer, accepted, accepts, firstRefusal, refuseIf, badTable, badRegion, sessionTokenAuthorityChanged}
+use Rattle.answer.specs.Refusable.{Refusable, given, refused}
+use Rattle.answer.proofs.Laws.{first-passes, first-refuses, rule-holds, rule-broken, no-rule}
+use Rattle.number.specs.Number.{Bytes}
+use Rattle.key.specs.declared.Keys.{Keys}
+use Rattle.key.specs.Key.{isAmong, keysIn}
+use Rattle.action.specs.declared.Parsed.{Parsed}
+use Rattle.action.specs.declared.Rule.the-variants.{Length}
+use Rattle.action.specs.Region.{Action, cut, glue, mostActions}
+use Rattle.action.specs.Mints.{isListed, listedMints}
+use Rattle.action.specs.Creation.{allKeep, inStoredForm, storedActions}
+use Rattle.action.specs.Views.{actionsAt, viewsIn, parsedOf}
+use Rattle.action.proofs.Cuts.{cut-cuts, cut-at-most, actions-of-parsed}
+use Rattle.action.proofs.Listing.{listed-mints-hold}
+use Rattle.action.proofs.Theorems.{stored-is-formed, stored-is-glued}
+use Rattle.action.proofs.Views.{length-actions}
+use Rattle.compact.specs.declared.Entries.{Entries}
+use Rattle.compact.specs.declared.Entry.{Entry}
+use Rattle.compact.specs.declared.Parsed.{Parsed as ReadList}
+use Rattle.compact.specs.Compact.{Instruction, Read, decode, reading, placed, placedOne, entriesIn, entriesOf, refused as noList}
+use Rattle.compact.proofs.Places.{entries-held}
+use Rattle.compact.proofs.Reading.{reading-of, outcome}
+use Rattle.account.specs.declared.Table.{Table}
+use Rattle.account.specs.Table.{Record, cutTable, recordsOf}
+use Rattle.account.specs.Views.{recordsAt, tableOf}
+use Rattle.account.proofs.Views.{records-of-table}
+use Rattle.limit.specs.declared.Amounts.{Amounts}
+use Rattle.limit.specs.Limit.{Charge, classAnswer, settled}
+use Rattle.limit.specs.Views.{charges, chargesAt, settledViews, settledAt}
+use Rattle.limit.proofs.Settling.{settle-glued}
+use Rattle.judge.specs.Freeze.{allFrozen}
+use Rattle.judge.specs.Programs.{programsAnswer}
+use Rattle.judge.specs.Judge.{Call, answerOf, recordsBefore, recordsAfter, programsOf, readAnswer, actionsOf, decrease, amountFor, charged, soundness, rules, steps, judged, regionAfter}
+use Rattle.judge.specs.Views.{programsIn, amountFrom, amountsOf, frozenFrom, checksFrom, limitsFrom, rulesFrom}
+use Rattle.judge.proofs.Freezing.{frozen-alike}
+use Rattle.judge.proofs.Lists.{only}
+
+-- ---- the first refusal of two lists
+
+pub first-append : (xs ys : List Answer) → firstRefusal (xs ++ ys) ≡ firstRefusal (firstRefusal xs ∷ firstRefusal ys ∷ [])
+first-append [] ys = sym (ap (λ (a : Answer). firstRefusal (a ∷ firstRefusal ys ∷ [])) no-rule ∙ first-passes (answer accepted) _ refl ∙ only (firstRefusal ys))
+first-append (a ∷ xs) ys = go (accepts a) refl (first-append xs ys)
+  where
+    go : (t : Bool) → accepts a ≡ t → firstRefusal (xs ++ ys) ≡ firstRefusal (firstRefusal xs ∷ firstRefusal ys ∷ [])
+        → firstRefusal ((a ∷ xs) ++ ys) ≡ firstRefusal (firstRefusal (a ∷ xs) ∷ firstRefusal ys ∷ [])
+    go true e more = first-passes a (xs ++ ys) e ∙ more ∙ ap (λ (b : Answer). firstRefusal (b ∷ firstRefusal ys ∷ [])) (sym (first-passes a xs e))
+    go false e more = first-refuses a (xs ++ ys) e ∙ sym (ap (λ (b : Answer). firstRefusal (b ∷ firstRefusal ys ∷ [])) (first-refuses a xs e) ∙ first-refuses a _ e)
+
+-- ---- steps 5 to 8, from what was cut
+
+pub mints-frozen : (vault : List ℕ) (before after : List Record) (l : List Action) (mints : Keys) → mints ≡ listedMints l
+    → allFrozen vault (λ (mint : List ℕ). isAmong mint (keysIn mints)) after before ≡ frozenFrom vault before after l
+unfolding frozenFrom
+mints-frozen vault before after l mints e = rw e
+
+module _ (slot : ℕ) (vault : List ℕ) (before after : List Record) (programs : List ℕ) (l : List Action) where
+  pub checks-refused : accepts (programsAnswer slot l before programs) ≡ false → checksFrom slot vault before after programs l ≡ programsAnswer slot l before programs
+  unfolding checksFrom
+  checks-refused e = first-refuses _ _ e
+
+  module _ (e : accepts (programsAnswer slot l before programs) ≡ true) where
+    pub checks-thawed : frozenFrom vault before after l ≡ false → checksFrom slot vault before after programs l ≡ answer sessionTokenAuthorityChanged
+    unfolding checksFrom
+    checks-thawed f = first-passes _ _ e ∙ rule-broken _ _ _ (lit< tt) (ap not f)
+
+    pub checks-passed : frozenFrom vault before after l ≡ true → checksFrom slot vault before after programs l ≡ answer accepted
+    unfolding checksFrom
+    checks-passed f = first-passes _ _ e ∙ rule-holds _ _ _ (ap not f) ∙ no-rule
+
+module _ (slot : ℕ) (cs : List Charge) where
+  pub limits-refused : accepts (classAnswer false slot cs) ≡ false → limitsFrom slot cs ≡ classAnswer false slot cs
+  unfolding limitsFrom
+  limits-refused e = first-refuses _ _ e
+
+  pub limits-decided : accepts (classAnswer false slot cs) ≡ true → limitsFrom slot cs ≡ classAnswer true slot cs
+  unfolding limitsFrom
+  limits-decided e = first-passes _ _ e ∙ only _
+
+module _ (slot : ℕ) (vault : List ℕ) (before after : List Record) (programs : List ℕ) (cs : List Charge) where
+  pub no-rules : (l : List Action) → length l ≤ 0 → rulesFrom slot vault before after programs cs l ≡ answer accepted
+  unfolding rulesFrom
+  no-rules [] h = refl
+  no-rules (a ∷ l) h = absurd (let z : _≡_ {A = ℕ} 0 1 = omega arith in omega arith)
+
+  some-rules : (l : List Action) → 0 < length l
+      → rulesFrom slot vault before after programs cs l ≡ firstRefusal (checksFrom slot vault before after programs l ∷ limitsFrom slot cs ∷ [])
+  unfolding rulesFrom
+  some-rules [] h = absurd (let z : _≡_ {A = ℕ} 0 1 = omega arith in omega arith)
+  some-rules (a ∷ l) h = refl
+
+  module _ (l : List Action) (h : 0 < length l) where
+    pub rules-unchecked : accepts (checksFrom slot vault before after programs l) ≡ false
+        → rulesFrom slot vault before after programs cs l ≡ checksFrom slot vault before after programs l
+    rules-unchecked e = some-rules l h ∙ first-refuses _ _ e
+
+    pub rules-checked : accepts (checksFrom slot vault before after programs l) ≡ true → rulesFrom slot vault before after programs cs l ≡ limitsFrom slot cs
+    rules-checked e = some-rules l h ∙ first-passes _ _ e ∙ only _
+
+-- ---- the region after
+
+module _ (a : Answer) (out s : List ℕ) where
+  pub region-kept : accepts a ≡ false → s ≡ cond (accepts a) out s
+  region-kept e = rw e
+
+  pub region-written : a ≡ answer accepted → out ≡ cond (accepts a) out s
+  region-written e = rw e
+
+-- ---- what was cut
+
+pub no-views-settled : (slot : ℕ) (p : Parsed) (amounts : Amounts) (s : List ℕ) → p .count ≡ 0 → settledAt slot p amounts s ≡ s
+unfolding settledAt settledViews viewsIn
+no-views-settled slot p amounts s e = rw e
+
+programs-placed : (at : ℕ) (is : List Instruction) → map (λ (e : Entry). e .program) (placed at is) ≡ map (λ (i : Instruction). i .program) is
+unfolding placed placedOne
+programs-placed at [] = refl
+programs-placed at (i ∷ is) = ap (λ (l : List ℕ). i .program ∷ l) (programs-placed _ is)
+
+pub programs-read : (s : List ℕ) → programsIn (reading s .entries) ≡ programsOf (decode s)
+unfolding programsIn outcome noList
+programs-read s = go (decode s) refl
+  where
+    go : (o : Option (Read (List Instruction))) → decode s ≡ o → programsIn (reading s .entries) ≡ programsOf o
+    go none e = ap (λ (r : ReadList). programsIn (r .entries)) (reading-of s none e) ∙ ap (map (λ (x : Entry). x .program)) (entries-held [])
+    go (some d) e =
+        ap (λ (r : ReadList). programsIn (r .entries)) (reading-of s (some d) e)
+        ∙ ap (map (λ (x : Entry). x .program)) (entries-held (placed 1 (d .value)))
+        ∙ programs-placed 1 (d .value)
+
+pub read-answer : (s : List ℕ) → reading s .answer ≡ readAnswer (decode s)
+unfolding outcome noList
+read-answer s = go (decode s) refl
+  where
+    go : (o : Option (Read (List Instruction))) → decode s ≡ o → reading s .answer ≡ readAnswer o
+    go none e = ap (λ (r : ReadList). r .answer) (reading-of s none e)
+    go (some d) e = ap (λ (r : ReadList). r .answer) (reading-of s (some d) e)
+
+pub records-before : (call : Call) (t : Table) → t ≡ tableOf (cutTable (call .before)) → recordsAt (call .before) t ≡ recordsBefore call
+unfolding recordsBefore
+records-before call t e = ap (recordsAt (call .before)) e ∙ records-of-table (call .before)
+
+pub records-after : (call : Call) (t : Table) → t ≡ tableOf (cutTable (call .after)) → recordsAt (call .after) t ≡ recordsAfter call
+unfolding recordsAfter
+records-after call t e = ap (recordsAt (call .after)) e ∙ records-of-table (call .after)
+
+pub table-answer : (x : Refusable (List Record)) → tableOf x .answer ≡ answerOf x
+unfolding tableOf
+table-answer (given l) = refl
+table-answer (refused r) = refl
+
+pub region-answer : (x : Refusable (List Action)) → parsedOf x .answer ≡ answerOf x
+unfolding parsedOf
+region-answer (given l) = refl
+region-answer (refused r) = refl
+
+-- a region that is refused is refused with 15
+stored-refused : (s : List ℕ) → (x : Refusable (List Action)) → storedActions s ≡ x → accepts (answerOf x) ≡ true → (l : List Action) × (storedActions s ≡ given l)
+unfolding storedActions
+stored-refused s (given l) e h = (l, e)
+stored-refused s (refused r) e h = absurd (go (cut mostActions s) refl)
+  where
+    no : r ≡ answer badRegion → ⊥
+    no q = let z : _≡_ {A = Bool} true false = sym h ∙ ap accepts q in let n : _≡_ {A = ℕ} 0 1 = cc in omega arith
+
+    same : storedActions s ≡ refused (answer badRegion) → r ≡ answer badRegion
+    same q = ap answerOf (sym e ∙ q)
+
+    form : (k : List Action) → cut mostActions s ≡ given k → (t : Bool) → inStoredForm k ≡ t → ⊥
+    form k q true f = let z : _≡_ {A = Refusable (List Action)} (given k) (refused r) = sym (rw (q, storedActions) (rw f)) ∙ e in let n : _≡_ {A = ℕ} 0 1 = cc in omega arith
+    form k q false f = no (same (rw (q, storedActions) (rw f)))
+
+    go : (y : Refusable (List Action)) → cut mostActions s ≡ y → ⊥
+    go (given k) q = form k q (inStoredForm k) refl
+    go (refused t) q = no (same (rw (q, storedActions)))
+
+-- ---- the charges
+
+charges-map : (f : Action → ℕ) (l : List Action) (ys : List ℕ) → charges l (map f l ++ ys) ≡ map (λ (a : Action). record { act = a; amount = f a }) l
+unfolding charges
+charges-map f [] ys = refl
+charges-map f (a ∷ l) ys = ap (λ (cs : List Charge). record { act = a; amount = f a } ∷ cs) (charges-map f l ys)
+
+-- the amounts that the code has for some actions, from the records before and after
+abbrev pub amountsFrom : Call → List Record → List Record → ℕ → List Action → Amounts
+amountsFrom call before after sol l = amountsOf (map (amountFrom (call .vault) before after sol (call .gross)) l)
+
+abbrev amountsFor : Call → List Action → Amounts
+amountsFor call l = amountsFrom call (recordsBefore call) (recordsAfter call) (decrease (call .lamportsBefore) (call .lamportsAfter)) l
+
+charges-are : (call : Call) (l : List Action) → charges l (amountsFor call l .list) ≡ charged call l
+unfolding amountsOf charged amountFor amountFrom
+charges-are call l = charges-map (amountFor call) l _
+
+-- ---- the steps of a call
+
+module _ (call : Call) where
+  rules-are : (l : List Action)
+      → frozenFrom (call .vault) (recordsBefore call) (recordsAfter call) l ≡ allFrozen (call .vault) (λ (mint : List ℕ). isListed mint l) (recordsAfter call) (recordsBefore call)
+      → rulesFrom (call .slot) (call .vault) (recordsBefore call) (recordsAfter call) (programsOf (decode (call .instructions))) (charged call l) l
+      ≡ firstRefusal (elim l [ [] ↦ [] | a ∷ k ↦ rules call (a ∷ k) ])
+  unfolding rulesFrom checksFrom limitsFrom rules
+  rules-are [] e = sym no-rule
+  rules-are (a ∷ k) e =
+      let l = a ∷ k in
+      let programs = programsAnswer (call .slot) l (recordsBefore call) (programsOf (decode (call .instructions))) in
+      let freeze = refuseIf (not (allFrozen (call .vault) (λ (mint : List ℕ). isListed mint l) (recordsAfter call) (recordsBefore call))) sessionTokenAuthorityChanged in
+      rw e
+      (sym (first-append (programs ∷ freeze ∷ []) (classAnswer false (call .slot) (charged call l) ∷ classAnswer true (call .slot) (charged call l) ∷ [])))
+
+-- ---- a region in stored form
+
+module _ (region : List ℕ) (call : Call) (l : List Action) (stored : storedActions region ≡ given l) where
+  at-most-16 : length l ≤ 16
+  at-most-16 = cut-at-most (cut-cuts mostActions region l (stored-is-formed region l stored .0))
+
+  listed : frozenFrom (call .vault) (recordsBefore call) (recordsAfter call) l
+      ≡ allFrozen (call .vault) (λ (mint : List ℕ). isListed mint l) (recordsAfter call) (recordsBefore call)
+  unfolding frozenFrom
+  listed =
+      frozen-alike (call .vault) (λ (mint : List ℕ). isAmong mint (keysIn (listedMints l))) (λ (mint : List ℕ). isListed mint l)
+      (λ m. listed-mints-hold m l (stored-is-formed region l stored .1 .lengths) at-most-16)
+      (recordsAfter call) (recordsBefore call)
+
+  settled-are : Bytes region → settledAt (call .slot) (parsedOf (given l)) (amountsFor call l) region ≡ glue (map (settled (call .slot)) (charged call l))
+  unfolding amountsOf
+  settled-are bytes =
+      let amounts = amountsFor call l in
+      let long : length l ≤ length (amounts .list) = simp (length-append, length-map) (omega arith) in
+      ap (settledAt (call .slot) (parsedOf (given l)) amounts) (sym (stored-is-glued region l bytes stored))
+      ∙ settle-glued (call .slot) l amounts long
+      ∙ ap (λ (cs : List Charge). glue (map (settled (call .slot)) cs)) (charges-are call l)
+
+-- ---- the whole call
+
+module _ (region : List ℕ) (call : Call) where
+  -- a refusal leaves the region as it was
+  pub refused-keeps : accepts (judged region call) ≡ false → regionAfter region call ≡ region
+  unfolding regionAfter
+  refused-keeps e = rw e
+
+  -- what an early refusal gives
+  refuses : (a : Answer) → judged region call ≡ a → accepts a ≡ false → (a ≡ judged region call) × (region ≡ regionAfter region call)
+  refuses a e h = (sym e, sym (refused-keeps (ap accepts e ∙ h)))
+
+  pub vault-refused : (length (call .vault) ≡ 32 → ⊥) → (answer badTable ≡ judged region call) × (region ≡ regionAfter region call)
+  unfolding judged steps soundness
+  vault-refused h = refuses (answer badTable) (rule-broken _ _ _ (lit< tt) (ap not (ne-eqb _ _ h))) refl
+
+  module _ (v : length (call .vault) ≡ 32) where
+    pub before-refused : accepts (answerOf (cutTable (call .before))) ≡ false
+        → (answerOf (cutTable (call .before)) ≡ judged region call) × (region ≡ regionAfter region call)
+    unfolding judged steps soundness
+    before-refused h = refuses _ (rule-holds _ _ _ (ap not (eq-eqb _ _ v)) ∙ first-refuses _ _ h) h
+
+    module _ (b : accepts (answerOf (cutTable (call .before))) ≡ true) where
+      pub after-refused : accepts (answerOf (cutTable (call .after))) ≡ false
+          → (answerOf (cutTable (call .after)) ≡ judged region call) × (region ≡ regionAfter region call)
+      unfolding judged steps soundness
+      after-refused h = refuses _ (rule-holds _ _ _ (ap not (eq-eqb _ _ v)) ∙ first-passes _ _ b ∙ first-refuses _ _ h) h
+
+      module _ (a : accepts (answerOf (cutTable (call .after))) ≡ true) where
+        pub instructions-refused : accepts (readAnswer (decode (call .instructions))) ≡ false
+            → (readAnswer (decode (call .instructions)) ≡ judged region call) × (region ≡ regionAfter region call)
+        unfolding judged steps soundness
+        instructions-refused h = refuses _ (rule-holds _ _ _ (ap not (eq-eqb _ _ v)) ∙ first-passes _ _ b ∙ first-passes _ _ a ∙ first-refuses _ _ h) h
+
+        module _ (i : accepts (readAnswer (decode (call .instructions))) ≡ true) where
+          pub region-refused : accepts (answerOf (storedActions region)) ≡ false
+              → (answerOf (storedActions region) ≡ judged region call) × (region ≡ regionAfter region call)
+          unfolding judged steps soundness
+          region-refused h =
+              refuses _ (rule-holds _ _ _ (ap not (eq-eqb _ _ v)) ∙ first-passes _ _ b ∙ first-passes _ _ a ∙ first-passes _ _ i ∙ first-refuses _ _ h) h
+
+          judged-soundly : accepts (answerOf (storedActions region)) ≡ true
+              → judged region call ≡ firstRefusal (elim (actionsOf (storedActions region)) [ [] ↦ [] | a ∷ l ↦ rules call (a ∷ l) ])
+          unfolding judged steps soundness
+          judged-soundly r =
+              rule-holds _ _ _ (ap not (eq-eqb _ _ v)) ∙ first-passes _ _ b ∙ first-passes _ _ a ∙ first-passes _ _ i ∙ first-passes _ _ r
+
+          module _ (r : accepts (answerOf (storedActions region)) ≡ true) (bytes : Bytes region) where
+            -- what is answered and written of what was cut is what the call answers and writes
+            pub judged-cut : (answered : Answer) (out : List ℕ) (p : Parsed) (before after : List Record) (programs : List ℕ) (sol : ℕ)
+                → p ≡ parsedOf (storedActions region) → before ≡ recordsBefore call → after ≡ recordsAfter call → programs ≡ programsOf (decode (call .instructions))
+                → sol ≡ decrease (call .lamportsBefore) (call .lamportsAfter)
+                → answered ≡ rulesFrom (call .slot) (call .vault) before after programs (chargesAt region p (amountsFrom call before after sol (actionsAt region p))) (actionsAt region p)
+                → out ≡ cond (accepts answered) (settledAt (call .slot) p (amountsFrom call before after sol (actionsAt region p)) region) region
+                → (answered ≡ judged region call) × (out ≡ regionAfter region call)
+            unfolding chargesAt regionAfter
+            judged-cut answered out p before after programs sol ep eb ea eq es said wrote =
+                let (l, stored) = stored-refused region (storedActions region) refl r in
+                let amounts = amountsFrom call before after sol (actionsAt region p) in
+                let views : p ≡ parsedOf (given l) = ep ∙ ap parsedOf stored in
+                let named : actionsAt region p ≡ l = ap (actionsAt region) views ∙ actions-of-parsed region l (stored-is-formed region l stored .0) in
+                let cs : chargesAt region p amounts ≡ charged call l = rw (named, eb, ea, es) (charges-are call l) in
+                let rules-said : rulesFrom (call .slot) (call .vault) before after programs (chargesAt region p amounts) (actionsAt region p)
+                ≡ rulesFrom (call .slot) (call .vault) (recordsBefore call) (recordsAfter call) (programsOf (decode (call .instructions))) (charged call l) l =
+                rw (cs, named, eb, ea, eq) in
+                let all : judged region call ≡ firstRefusal (elim l [ [] ↦ [] | a ∷ k ↦ rules call (a ∷ k) ]) =
+                judged-soundly r ∙ ap (λ (x : Refusable (List Action)). firstRefusal (elim (actionsOf x) [ [] ↦ [] | a ∷ k ↦ rules call (a ∷ k) ])) stored in
+                let same : answered ≡ judged region call = said ∙ rules-said ∙ rules-are call l (listed region call l stored) ∙ sym all in
+                let settles : settledAt (call .slot) p amounts region ≡ glue (map (settled (call .slot)) (charged call l)) =
+                rw (named, views, eb, ea, es) (settled-are region call l stored bytes) in
+                let after-all : settledAt (call .slot) p amounts region ≡ glue (map (settled (call .slot)) (charged call (actionsOf (storedActions region)))) =
+                settles ∙ ap (λ (x : Refusable (List Action)). glue (map (settled (call .slot)) (charged call (actionsOf x)))) (sym stored) in
+                (same, wrote ∙ ap₂ (λ (x : Answer) (y : List ℕ). cond (accepts x) y region) same after-all)

@@ -1,0 +1,125 @@
+-- `judge::call::judge_cut` meets its contract: an empty region has no rules; the checks decide before the limits; only what passes both is settled.
+-- Assumes nothing.
+use Prim.Native.Nat.{_<_, _≤_}
+use mathlib.Core.Path.{_≡_, refl, sym, ap, _∙_}
+use native.Mathlib.Omega.{arith}
+use borrow.Author.Tests.{not-true, not-false}
+use lib.ListN.{length, length-map}
+use Rattle.answer.specs.Numbers.{accepts}
+use Rattle.action.specs.Views.{actionsAt}
+use Rattle.action.proofs.Views.{length-actions}
+use Rattle.judge.proofs.Lists.{accepted-is}
+use Rattle.judge.proofs.Steps.{no-rules, rules-unchecked, rules-checked, no-views-settled, region-kept, region-written}
+use borrow.Author.Needs.{needs}
+use Rattle.judge.proofs.call.judge_cut.Statement.{statement}
+use Rattle.judge.proofs.call.judge_cut.Tie as tie
+
+of-requires : tie.Need-of-requires
+of-requires c κs = search needs
+
+returns : tie.Need-returns
+returns c =
+    let start = c .before .before .before .before .before .before .before in
+    let region = start .args .region .now in
+    let parsed = start .args .parsed in
+    let none : length (actionsAt region parsed) ≤ 0 = rw (length-actions region parsed) (omega arith) in
+    (c .of .ensures ∙ sym (no-rules _ _ _ _ _ _ _ none), sym (no-views-settled _ parsed _ _ (omega arith)) ∙ region-written _ _ _ (c .of .ensures))
+
+checks-answer-requires : tie.Need-checks-answer-requires
+checks-answer-requires c κs = search needs
+
+accepts-requires : tie.Need-accepts-requires
+accepts-requires c κs = search needs
+
+same-length : tie.Need-same-length
+same-length c = search needs
+
+returns-2 : tie.Need-returns-2
+returns-2 c =
+    let checks = c .before .before in
+    let start = checks .before .before .before .before .before .before .before .before in
+    let region = start .args .region .now in
+    let parsed = start .args .parsed in
+    let long : length (parsed .views) ≡ 16 = simp length-map at (start .good .1 .0 .1 .1 .1 .0 .1 .0 .1) in
+    let some : 0 < length (actionsAt region parsed) = rw (length-actions region parsed) (omega arith) in
+    let refusal = sym (c .before .accepts .ensures) ∙ not-true _ (c .if2 .taken) in (
+      checks .checks-answer .ensures ∙ sym (rules-unchecked _ _ _ _ _ _ _ some (sym (ap accepts (checks .checks-answer .ensures)) ∙ refusal)),
+      region-kept (checks .checks-answer .result) _ _ refusal,
+    )
+
+amounts-requires : tie.Need-amounts-requires
+amounts-requires c κs = search needs
+
+limits-answer-requires : tie.Need-limits-answer-requires
+limits-answer-requires c κs = search needs
+
+accepts-requires-2 : tie.Need-accepts-requires-2
+accepts-requires-2 c κs = search needs
+
+same-length-2 : tie.Need-same-length-2
+same-length-2 c = search needs
+
+returns-3 : tie.Need-returns-3
+returns-3 c =
+    let limits = c .before .before in
+    let amounts = limits .before .before in
+    let passed = amounts .before .before in
+    let checks = passed .before .before in
+    let start = checks .before .before .before .before .before .before .before .before in
+    let region = start .args .region .now in
+    let parsed = start .args .parsed in
+    let long : length (parsed .views) ≡ 16 = simp length-map at (start .good .1 .0 .1 .1 .1 .0 .1 .0 .1) in
+    let some : 0 < length (actionsAt region parsed) = rw (length-actions region parsed) (omega arith) in
+    let refusal = sym (c .before .accepts2 .ensures) ∙ not-true _ (c .if3 .taken) in
+    let checked = sym (ap accepts (checks .checks-answer .ensures)) ∙ sym (passed .before .accepts .ensures) ∙ not-false _ (passed .if2 .left) in (
+      limits .limits-answer .ensures ∙ rw (amounts .amounts .ensures) (sym (rules-checked _ _ _ _ _ _ _ some checked)),
+      region-kept (limits .limits-answer .result) _ _ refusal,
+    )
+
+settle-requires : tie.Need-settle-requires
+settle-requires c κs = search needs
+
+of-requires-2 : tie.Need-of-requires-2
+of-requires-2 c κs = search needs
+
+same-length-3 : tie.Need-same-length-3
+same-length-3 c = search needs
+
+returns-4 : tie.Need-returns-4
+returns-4 c =
+    let settled = c .before .before .before in
+    let kept = settled .before .before in
+    let limits = kept .before .before in
+    let amounts = limits .before .before in
+    let passed = amounts .before .before in
+    let checks = passed .before .before in
+    let start = checks .before .before .before .before .before .before .before .before in
+    let region = start .args .region .now in
+    let parsed = start .args .parsed in
+    let long : length (parsed .views) ≡ 16 = simp length-map at (start .good .1 .0 .1 .1 .1 .0 .1 .0 .1) in
+    let some : 0 < length (actionsAt region parsed) = rw (length-actions region parsed) (omega arith) in
+    let checked = sym (ap accepts (checks .checks-answer .ensures)) ∙ sym (passed .before .accepts .ensures) ∙ not-false _ (passed .if2 .left) in
+    let allowed = accepted-is _ (sym (kept .before .accepts2 .ensures) ∙ not-false _ (kept .if3 .left)) in (
+      c .of2 .ensures ∙ sym allowed ∙ limits .limits-answer .ensures ∙ rw (amounts .amounts .ensures) (sym (rules-checked _ _ _ _ _ _ _ some checked)),
+      settled .settle .ensures ∙ rw (amounts .amounts .ensures) (region-written _ _ _ (c .of2 .ensures)),
+    )
+
+pub judge-cut-spec : {M : Type 1} → statement M
+judge-cut-spec =
+    tie.close
+    (tie.spec
+    of-requires
+    returns
+    checks-answer-requires
+    accepts-requires
+    same-length
+    returns-2
+    amounts-requires
+    limits-answer-requires
+    accepts-requires-2
+    same-length-2
+    returns-3
+    settle-requires
+    of-requires-2
+    same-length-3
+    returns-4)

@@ -1,0 +1,72 @@
+-- `judge::freeze::keeps_freeze` meets its contract: only a counted account of a listed mint is frozen.
+-- Assumes nothing.
+use mathlib.Core.Path.{_≡_, refl, sym, ap, _∙_}
+use borrow.Author.Tests.{not-true, not-false}
+use Prim.Native.Nat.{ℕ}
+use mathlib.Core.List.{List}
+use lib.ListN.{take}
+use Rattle.key.specs.Key.{isAmong, keysIn}
+use Rattle.judge.proofs.Freezing.{not-counted-frozen, not-listed-frozen, listed-frozen}
+use borrow.Author.Needs.{needs}
+use Rattle.judge.proofs.freeze.keeps_freeze.Statement.{statement}
+use Rattle.judge.proofs.freeze.keeps_freeze.Tie as tie
+
+is-counted-requires : tie.Need-is-counted-requires
+is-counted-requires c κs = search needs
+
+returns : tie.Need-returns
+returns c = sym (not-counted-frozen _ _ _ _ (sym (c .before .is-counted .ensures) ∙ not-true _ (c .if1 .taken)))
+
+record-payload-requires : tie.Need-record-payload-requires
+record-payload-requires c κs = search needs
+
+part-of-requires : tie.Need-part-of-requires
+part-of-requires c κs = search needs
+
+holds-requires : tie.Need-holds-requires
+holds-requires c κs = search needs
+
+returns-2 : tie.Need-returns-2
+returns-2 c =
+    let first = c .before .before .before .before in
+    let mint = c .before .before .part-of in
+    let payload = c .before .before .before .record-payload in
+    let mints = first .before .before .before .before .before .args .mints in
+    sym
+    (not-listed-frozen _ _ _ _ (sym (first .before .is-counted .ensures) ∙ not-false _ (first .if1 .left))
+    (ap (λ (p : List ℕ). isAmong (take 32 p) (keysIn mints)) (sym (payload .ensures)) ∙ ap (λ (m : List ℕ). isAmong m (keysIn mints)) (sym (mint .ensures)) ∙ sym (c .before .holds .ensures)
+    ∙ not-true _ (c .if2 .taken)))
+
+record-key-requires : tie.Need-record-key-requires
+record-key-requires c κs = search needs
+
+still-there-requires : tie.Need-still-there-requires
+still-there-requires c κs = search needs
+
+returns-3 : tie.Need-returns-3
+returns-3 c =
+    let second = c .before .before in
+    let first = second .before .before .before .before in
+    let mint = second .before .before .part-of in
+    let payload = second .before .before .before .record-payload in
+    let mints = first .before .before .before .before .before .args .mints in
+    c .still-there .ensures
+    ∙ rw (payload .ensures, c .before .record-key .ensures)
+    (sym
+    (listed-frozen _ _ _ _ (sym (first .before .is-counted .ensures) ∙ not-false _ (first .if1 .left))
+    (ap (λ (p : List ℕ). isAmong (take 32 p) (keysIn mints)) (sym (payload .ensures)) ∙ ap (λ (m : List ℕ). isAmong m (keysIn mints)) (sym (mint .ensures)) ∙ sym (second .before .holds .ensures)
+    ∙ not-false _ (second .if2 .left))))
+
+pub keeps-freeze-spec : {M : Type 1} → statement M
+keeps-freeze-spec =
+    tie.close
+    (tie.spec
+    is-counted-requires
+    returns
+    record-payload-requires
+    part-of-requires
+    holds-requires
+    returns-2
+    record-key-requires
+    still-there-requires
+    returns-3)

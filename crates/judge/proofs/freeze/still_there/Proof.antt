@@ -1,0 +1,105 @@
+-- `judge::freeze::still_there` meets its contract. The loop's invariant: from `i` on the first record with the key is the first of all.
+-- Assumes nothing.
+use Prim.Native.Nat.{ℕ, _+_, _-_, _≤_, min}
+use mathlib.Core.Path.{_≡_, refl, sym, ap, _∙_}
+use native.Mathlib.Numerals.{add-one}
+use native.Mathlib.Omega.{arith}
+use mathlib.Core.List.{List}
+use lib.ListN.{length, drop, length-map}
+use Rattle.key.specs.Key.{sameKey}
+use Rattle.account.specs.Views.{recordsAt}
+use Rattle.judge.specs.Freeze.{isFoundStill, firstWithKey}
+use Rattle.judge.proofs.Freezing.{still-found, still-passed, still-end}
+use Rattle.judge.proofs.freeze.still_there.Statement.{statement}
+use Rattle.judge.proofs.freeze.still_there.Tie as tie
+
+abbrev Inv-loop : tie.InvT-loop
+Inv-loop payload key table cut n i₀ i =
+    (i ≤ n) × (n ≡ min (cut .count) 64)
+    × (isFoundStill payload (firstWithKey key (drop i (recordsAt table cut))) ≡ isFoundStill payload (firstWithKey key (recordsAt table cut)))
+
+abbrev μ-loop : tie.MeasureT-loop
+μ-loop payload key table cut n i₀ i = n - i
+
+records-counted-requires : tie.Need-records-counted-requires Inv-loop μ-loop
+records-counted-requires c κs = tt
+
+loop-holds : tie.Need-loop-holds Inv-loop μ-loop
+loop-holds c = (omega arith, c .records-counted .ensures, refl)
+
+mul-view : tie.Need-mul-view Inv-loop μ-loop
+mul-view c = omega arith
+
+element-copy-out-view : tie.Need-element-copy-out-view Inv-loop μ-loop
+element-copy-out-view c = omega arith
+
+record-key-requires : tie.Need-record-key-requires Inv-loop μ-loop
+record-key-requires c κs = tt
+
+same-key-requires : tie.Need-same-key-requires Inv-loop μ-loop
+same-key-requires c κs = tt
+
+is-still-requires : tie.Need-is-still-requires Inv-loop μ-loop
+is-still-requires c κs = tt
+
+returns : tie.Need-returns Inv-loop μ-loop
+returns c =
+    let at-loop = c .before .before .before .before .before .before in
+    let start = at-loop .before .before .before .before .before in
+    let cut = start .args .t4 in
+    let long : length (cut .views) ≡ 64 = simp length-map at (start .good .1 .1 .1 .0 .1 .1 .1 .0 .1 .0 .1) in
+    let test = c .before in
+    sym
+    (sym (at-loop .loop .inv .2)
+    ∙ still-found _ _ _ cut (at-loop .loop .i) _ (omega arith) (omega arith)
+    (ap (λ (k : List ℕ). sameKey k (start .args .key .now)) (sym (test .before .before .record-key .ensures)) ∙ sym (test .before .same-key .ensures) ∙ test .if1 .taken)
+    ∙ sym (c .is-still .ensures))
+
+add-i : tie.Need-add-i Inv-loop μ-loop
+add-i c = omega arith
+
+loop-less : tie.Need-loop-less Inv-loop μ-loop
+loop-less c = omega arith
+
+loop-again : tie.Need-loop-again Inv-loop μ-loop
+loop-again c =
+    let at-loop = c .before .before .before .before .before in
+    let i = at-loop .loop .i in
+    let start = at-loop .before .before .before .before .before in
+    let cut = start .args .t4 in
+    let long : length (cut .views) ≡ 64 = simp length-map at (start .good .1 .1 .1 .0 .1 .1 .1 .0 .1 .0 .1) in (
+      omega arith,
+      at-loop .loop .inv .1,
+      rw (add-one i)
+          (sym
+          (still-passed _ _ _ cut i _ (omega arith) (omega arith)
+          (ap (λ (k : List ℕ). sameKey k (start .args .key .now)) (sym (c .before .before .record-key .ensures)) ∙ sym (c .before .same-key .ensures) ∙ c .if1 .left))
+          ∙ at-loop .loop .inv .2),
+    )
+
+returns-2 : tie.Need-returns-2 Inv-loop μ-loop
+returns-2 c =
+    let at-loop = c .before in
+    let start = at-loop .before .before .before .before .before in
+    let cut = start .args .t4 in
+    let long : length (cut .views) ≡ 64 = simp length-map at (start .good .1 .1 .1 .0 .1 .1 .1 .0 .1 .0 .1) in
+    sym (sym (at-loop .loop .inv .2) ∙ still-end _ _ _ cut (at-loop .loop .i) (omega arith))
+
+pub still-there-spec : {M : Type 1} → statement M
+still-there-spec =
+    tie.close
+    (tie.spec
+    Inv-loop
+    μ-loop
+    records-counted-requires
+    loop-holds
+    mul-view
+    element-copy-out-view
+    record-key-requires
+    same-key-requires
+    is-still-requires
+    returns
+    add-i
+    loop-less
+    loop-again
+    returns-2)

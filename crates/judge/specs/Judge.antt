@@ -1,0 +1,114 @@
+-- The judged call: nine steps, the first failure decides, and only an accepted call writes.
+-- Assumes nothing.
+use Prim.Native.Nat.{ℕ}
+use mathlib.Core.Bool.{Bool, true, false, not, cond}
+use mathlib.Core.List.{List, [], _∷_, _++_, map}
+use mathlib.Core.Option.{Option, none, some}
+use lib.Dec.{eqb}
+use lib.ListN.{length}
+use Rattle.answer.specs.declared.Answer.{Answer}
+use Rattle.answer.specs.Numbers.{answer, accepted, accepts, firstRefusal, refuseIf, badTable, invalidInstructionData, sessionTokenAuthorityChanged}
+use Rattle.answer.specs.Refusable.{Refusable, given, refused}
+use Rattle.number.specs.Number.{flooredDifference}
+use Rattle.key.specs.Key.{keyLength}
+use Rattle.action.specs.Region.{Action, glue, solMaxPerTx}
+use Rattle.action.specs.Fields.{isToken, keyOf}
+use Rattle.action.specs.Mints.{isListed}
+use Rattle.action.specs.Creation.{storedActions}
+use Rattle.compact.specs.Compact.{Instruction, Read, decode}
+use Rattle.account.specs.Table.{Record, cutTable, recordsOf}
+use Rattle.account.specs.Tokens.{balance}
+use Rattle.limit.specs.Limit.{Charge, classAnswer, settled}
+use Rattle.judge.specs.Programs.{programsAnswer}
+use Rattle.judge.specs.Freeze.{allFrozen}
+
+-- what a judged call is given besides the region
+pub record Call : Type 0 where
+  pub before : List ℕ
+  pub after : List ℕ
+  pub instructions : List ℕ
+  pub vault : List ℕ
+  pub slot : ℕ
+  pub lamportsBefore : ℕ
+  pub lamportsAfter : ℕ
+  pub gross : ℕ
+
+-- the answer of what gives a value or refuses
+abbrev pub answerOf : {A : Type 0} → Refusable A → Answer
+answerOf (given a) = answer accepted
+answerOf (refused r) = r
+
+-- the records of the table before, and of the table after
+unfoldable pub recordsBefore : Call → List Record
+recordsBefore call = recordsOf (cutTable (call .before))
+
+unfoldable pub recordsAfter : Call → List Record
+recordsAfter call = recordsOf (cutTable (call .after))
+
+-- the program indexes of a list that was read, none where there is no list
+abbrev pub programsOf : Option (Read (List Instruction)) → List ℕ
+programsOf none = []
+programsOf (some d) = map (λ (i : Instruction). i .program) (d .value)
+
+-- the answer to reading the instructions
+abbrev pub readAnswer : Option (Read (List Instruction)) → Answer
+readAnswer none = answer invalidInstructionData
+readAnswer (some d) = answer accepted
+
+-- the actions of a region, none where it is not in stored form
+abbrev pub actionsOf : Refusable (List Action) → List Action
+actionsOf (given l) = l
+actionsOf (refused r) = []
+
+-- how much a balance went down
+unfoldable pub decrease : ℕ → ℕ → ℕ
+decrease before after = flooredDifference before after
+
+-- the amount that an action's rule looks at: the decrease of its mint's balance; for SolMaxPerTx the gross outflow; else the decrease in lamports
+unfoldable pub amountFor : Call → Action → ℕ
+unfolding decrease recordsBefore recordsAfter
+amountFor call a =
+    cond (isToken (a .kind))
+    (decrease (balance (call .vault) (keyOf a) (recordsBefore call)) (balance (call .vault) (keyOf a) (recordsAfter call)))
+    (cond (eqb (a .kind) solMaxPerTx) (call .gross) (decrease (call .lamportsBefore) (call .lamportsAfter)))
+
+-- each action with its amount
+unfoldable pub charged : Call → List Action → List Charge
+unfolding amountFor
+charged call l = map (λ (a : Action). record { act = a; amount = amountFor call a }) l
+
+-- steps 1 to 3: the vault key, both tables, the instructions, the region
+unfoldable pub soundness : List ℕ → Call → List Answer
+soundness region call =
+    refuseIf (not (eqb (length (call .vault)) keyLength)) badTable
+    ∷ answerOf (cutTable (call .before))
+    ∷ answerOf (cutTable (call .after))
+    ∷ readAnswer (decode (call .instructions))
+    ∷ answerOf (storedActions region)
+    ∷ []
+
+-- steps 5 to 8: the programs, the freeze, the SOL rules, the token rules
+unfoldable pub rules : Call → List Action → List Answer
+unfolding charged recordsBefore recordsAfter
+rules call l =
+    programsAnswer (call .slot) l (recordsBefore call) (programsOf (decode (call .instructions)))
+    ∷ refuseIf (not (allFrozen (call .vault) (λ (mint : List ℕ). isListed mint l) (recordsAfter call) (recordsBefore call))) sessionTokenAuthorityChanged
+    ∷ classAnswer false (call .slot) (charged call l)
+    ∷ classAnswer true (call .slot) (charged call l)
+    ∷ []
+
+-- the steps of a judged call; step 4: an empty region has none of the rules
+unfoldable pub steps : List ℕ → Call → List Answer
+unfolding soundness rules
+steps region call = soundness region call ++ elim (actionsOf (storedActions region)) [ [] ↦ [] | a ∷ l ↦ rules call (a ∷ l) ]
+
+-- what a judged call answers
+unfoldable pub judged : List ℕ → Call → Answer
+unfolding steps
+judged region call = firstRefusal (steps region call)
+
+-- step 9: the region afterwards
+unfoldable pub regionAfter : List ℕ → Call → List ℕ
+unfolding judged charged
+regionAfter region call =
+    cond (accepts (judged region call)) (glue (map (settled (call .slot)) (charged call (actionsOf (storedActions region))))) region

@@ -1,0 +1,4 @@
+pub mod Programs
+pub mod Freeze
+pub mod Judge
+pub mod Views

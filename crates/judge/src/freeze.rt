@@ -1,0 +1,136 @@
+// Step 6: the authorities of the vault's token accounts of listed mints stay as they were.
+use account::MAX_RECORDS;
+use account::RecordView;
+use account::Table;
+use account::fields::record_key;
+use account::fields::record_payload;
+use account::tokens::is_counted;
+use account::tokens::is_token_account;
+use key::KEY_LENGTH;
+use key::Keys;
+ghost use mathlib.Core.Path.{_≡_};
+ghost use mathlib.Core.List.{List};
+ghost use Prim.Native.Nat.{ℕ, min};
+ghost use lib.ListN.{take, drop};
+ghost use Rattle.key.specs.Key.{isAmong, keysIn};
+ghost use Rattle.account.specs.Views.{recordAt, recordsAt};
+ghost use Rattle.judge.specs.Freeze.{firstWithKey, samePart, sameAuthorities, isStill, isFoundStill, keepsFreeze, allFrozen};
+
+const OWNER_OFFSET: usize = 32;
+
+const DELEGATE_OFFSET: usize = 72;
+
+const CLOSE_AUTHORITY_OFFSET: usize = 129;
+
+const AUTHORITY_LENGTH: usize = 36;
+
+// The `size` bytes from `at` on, as far as they are there.
+fn part_of(bytes: &[u8], at: usize, size: usize) -> &[u8]
+    ensures { λ r. ⌜ now r ≡ take size (drop at (now (bytes .entry))) ⌝ }
+{
+    if bytes.len() < at {
+        return &bytes[..0];
+    }
+    if bytes.len() - at < size {
+        return &bytes[at..];
+    }
+    &bytes[at..at + size]
+}
+
+fn same_part(a: &[u8], b: &[u8], at: usize, size: usize) -> bool
+    ensures { λ r. ⌜ r ≡ samePart at size (now (a .entry)) (now (b .entry)) ⌝ }
+{
+    check::same(part_of(a, at, size), part_of(b, at, size))
+}
+
+fn same_authorities(a: &[u8], b: &[u8]) -> bool
+    ensures { λ r. ⌜ r ≡ sameAuthorities (now (a .entry)) (now (b .entry)) ⌝ }
+{
+    if !same_part(a, b, OWNER_OFFSET, KEY_LENGTH) {
+        return false;
+    }
+    if !same_part(a, b, DELEGATE_OFFSET, AUTHORITY_LENGTH) {
+        return false;
+    }
+    same_part(a, b, CLOSE_AUTHORITY_OFFSET, AUTHORITY_LENGTH)
+}
+
+// Whether a record is still the account that had the data.
+fn is_still(payload: &[u8], table: &[u8], view: RecordView) -> bool
+    ensures { λ r. ⌜ r ≡ isStill (now (payload .entry)) (recordAt (now (table .entry)) view) ⌝ }
+{
+    if !is_token_account(table, view) {
+        return false;
+    }
+    same_authorities(payload, record_payload(table, view))
+}
+
+// How many records there are to look at, whatever the count says.
+fn records_counted(cut: Table) -> usize
+    ensures { λ r. ⌜ r ≡ min (cut .count) 64 ⌝ }
+{
+    if cut.count < MAX_RECORDS {
+        cut.count
+    } else {
+        MAX_RECORDS
+    }
+}
+
+// Whether the first record with the key is still that account.
+fn still_there(payload: &[u8], key: &[u8], table: &[u8], cut: Table) -> bool
+    ensures { λ r. ⌜ r ≡ isFoundStill (now (payload .entry)) (firstWithKey (now (key .entry)) (recordsAt (now (table .entry)) cut)) ⌝ }
+{
+    let n = records_counted(cut);
+    let mut i = 0;
+    while i < n {
+        let view = cut.views[i];
+        if key::same_key(record_key(table, view), key) {
+            return is_still(payload, table, view);
+        }
+        i += 1;
+    }
+    false
+}
+
+fn keeps_freeze(
+    before: &[u8],
+    view: RecordView,
+    after: &[u8],
+    cut: Table,
+    vault: &[u8],
+    mints: Keys,
+) -> bool
+    ensures { λ r. ⌜ r ≡ keepsFreeze (now (vault .entry)) (λ (mint : List ℕ). isAmong mint (keysIn mints)) (recordsAt (now (after .entry)) cut) (recordAt (now (before .entry)) view) ⌝ }
+{
+    if !is_counted(before, view, vault) {
+        return true;
+    }
+    let payload = record_payload(before, view);
+    if !mints.holds(part_of(payload, 0, KEY_LENGTH)) {
+        return true;
+    }
+    still_there(payload, record_key(before, view), after, cut)
+}
+
+// Whether each counted account of the table before whose mint is listed is still there after.
+pub fn verify_token_authorities_unchanged(
+    before: &[u8],
+    before_cut: Table,
+    after: &[u8],
+    after_cut: Table,
+    vault: &[u8],
+    mints: Keys,
+) -> bool
+    ensures { λ r. ⌜ r ≡ allFrozen (now (vault .entry)) (λ (mint : List ℕ). isAmong mint (keysIn mints)) (recordsAt (now (after .entry)) «after_cut») (recordsAt (now (before .entry)) «before_cut») ⌝ }
+{
+    let n = records_counted(before_cut);
+    let mut i = 0;
+    while i < n {
+        let view = before_cut.views[i];
+        if !keeps_freeze(before, view, after, after_cut, vault, mints) {
+            return false;
+        }
+        i += 1;
+    }
+    true
+}
