@@ -1,0 +1,43 @@
+// The co-signer's boundary: creation and the judged call as C functions, each answering with a number of the table.
+use action::form::validate_actions_buffer;
+use judge::call::judge;
+ghost use mathlib.Core.Path.{_≡_};
+ghost use Rattle.action.specs.Creation.{creation};
+ghost use Rattle.judge.specs.Judge.{judged, regionAfter};
+
+// What creation answers to a region.
+#[no_mangle]
+pub extern "C" fn thimbleford_create(region: &[u8]) -> u32
+    ensures { λ r. ⌜ r ≡ creation (now (region .entry)) .number ⌝ }
+{
+    validate_actions_buffer(region).number
+}
+
+// What a judged call answers; only an accepted one writes the region.
+#[no_mangle]
+pub extern "C" fn thimbleford_judge(
+    region: &mut [u8],
+    before: &[u8],
+    after: &[u8],
+    instructions: &[u8],
+    vault: &[u8],
+    slot: u64,
+    lamports_before: u64,
+    lamports_after: u64,
+    gross: u64,
+) -> u32
+    ensures { λ r. ⌜ (r ≡ judged (now (region .entry)) (record { before = now (before .entry); after = now (after .entry); instructions = now (instructions .entry); vault = now (vault .entry); slot = slot; lamportsBefore = «lamports_before»; lamportsAfter = «lamports_after»; gross = gross }) .number) × (now (region .exit) ≡ regionAfter (now (region .entry)) (record { before = now (before .entry); after = now (after .entry); instructions = now (instructions .entry); vault = now (vault .entry); slot = slot; lamportsBefore = «lamports_before»; lamportsAfter = «lamports_after»; gross = gross })) ⌝ }
+{
+    judge(
+        region,
+        before,
+        after,
+        instructions,
+        vault,
+        slot,
+        lamports_before,
+        lamports_after,
+        gross,
+    )
+    .number
+}
