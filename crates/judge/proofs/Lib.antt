@@ -1,4 +1,6 @@
 pub mod Freezing
 pub mod Lists
+pub mod NamedValues
 pub mod Outflow
 pub mod Steps
+pub mod Theorems

@@ -166,24 +166,25 @@ region-answer (given l) = refl
 region-answer (refused r) = refl
 
 -- a region that is refused is refused with 15
-stored-refused : (s : List ℕ) → (x : Refusable (List Action)) → storedActions s ≡ x → accepts (answerOf x) ≡ true → (l : List Action) × (storedActions s ≡ given l)
+pub stored-refusal : (s : List ℕ) (r : Answer) → storedActions s ≡ refused r → r ≡ answer badRegion
 unfolding storedActions
-stored-refused s (given l) e h = (l, e)
-stored-refused s (refused r) e h = absurd (go (cut mostActions s) refl)
+stored-refusal s r e = go (cut mostActions s) refl
   where
-    no : r ≡ answer badRegion → ⊥
-    no q = let z : _≡_ {A = Bool} true false = sym h ∙ ap accepts q in let n : _≡_ {A = ℕ} 0 1 = cc in omega arith
-
     same : storedActions s ≡ refused (answer badRegion) → r ≡ answer badRegion
     same q = ap answerOf (sym e ∙ q)
 
-    form : (k : List Action) → cut mostActions s ≡ given k → (t : Bool) → inStoredForm k ≡ t → ⊥
-    form k q true f = let z : _≡_ {A = Refusable (List Action)} (given k) (refused r) = sym (rw (q, storedActions) (rw f)) ∙ e in let n : _≡_ {A = ℕ} 0 1 = cc in omega arith
-    form k q false f = no (same (rw (q, storedActions) (rw f)))
+    form : (k : List Action) → cut mostActions s ≡ given k → (t : Bool) → inStoredForm k ≡ t → r ≡ answer badRegion
+    form k q true f = absurd (let z : _≡_ {A = Refusable (List Action)} (given k) (refused r) = sym (rw (q, storedActions) (rw f)) ∙ e in let n : _≡_ {A = ℕ} 0 1 = cc in omega arith)
+    form k q false f = same (rw (q, storedActions) (rw f))
 
-    go : (y : Refusable (List Action)) → cut mostActions s ≡ y → ⊥
+    go : (y : Refusable (List Action)) → cut mostActions s ≡ y → r ≡ answer badRegion
     go (given k) q = form k q (inStoredForm k) refl
-    go (refused t) q = no (same (rw (q, storedActions)))
+    go (refused t) q = same (rw (q, storedActions))
+
+stored-given : (s : List ℕ) (x : Refusable (List Action)) → storedActions s ≡ x → accepts (answerOf x) ≡ true → (l : List Action) × (storedActions s ≡ given l)
+stored-given s (given l) e h = (l, e)
+stored-given s (refused r) e h =
+    absurd (let z : _≡_ {A = Bool} true false = sym h ∙ ap accepts (stored-refusal s r e) in let n : _≡_ {A = ℕ} 0 1 = cc in omega arith)
 
 -- ---- the charges
 
@@ -299,7 +300,7 @@ module _ (region : List ℕ) (call : Call) where
                 → (answered ≡ judged region call) × (out ≡ regionAfter region call)
             unfolding chargesAt regionAfter
             judged-cut answered out p before after programs sol ep eb ea eq es said wrote =
-                let (l, stored) = stored-refused region (storedActions region) refl r in
+                let (l, stored) = stored-given region (storedActions region) refl r in
                 let amounts = amountsFrom call before after sol (actionsAt region p) in
                 let views : p ≡ parsedOf (given l) = ep ∙ ap parsedOf stored in
                 let named : actionsAt region p ≡ l = ap (actionsAt region) views ∙ actions-of-parsed region l (stored-is-formed region l stored .0) in

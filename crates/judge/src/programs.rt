@@ -37,7 +37,7 @@ fn has_key(region: &[u8], view: ActionView, kind: u8, slot: u64, key: &[u8]) -> 
         return false;
     }
     if is_expired(view.expires, slot) {
-        return false;
+        return false; // an expired entry has no key
     }
     key::same_key(key_of(region, view), key)
 }

@@ -75,10 +75,10 @@ fn breaks(region: &[u8], view: ActionView, slot: u64, amount: u64) -> bool
     ensures { λ r. ⌜ r ≡ doesBreak slot amount (actionAt (now (region .entry)) view) ⌝ }
 {
     if amount == 0 {
-        return false;
+        return false; // a call that takes nothing breaks no rule
     }
     if is_expired(view.expires, slot) {
-        return true;
+        return true; // what is expired allows nothing
     }
     above(region, view, slot, amount)
 }
