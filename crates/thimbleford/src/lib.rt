@@ -38,6 +38,5 @@ pub extern "C" fn thimbleford_judge(
         lamports_before,
         lamports_after,
         gross,
-    )
-    .number
+    ).number
 }

@@ -1,0 +1,34 @@
+//! The differential runner: the port held beside the published Rust.
+//!
+//! Creation and judging are compared through [`subjects::Subject`] by
+//! [`runner::compare`]; they and the functions below them through the program
+//! `vectors`, which answers cases from its standard input ([`vectors`]). The
+//! cases are drawn from a seed.
+//!
+//! Where the published sources were not found the crate builds, and tests what
+//! it can; [`NOT_RUN`] is the line that says so.
+
+pub mod aim;
+pub mod breach;
+pub mod bytes;
+pub mod calls;
+pub mod chance;
+pub mod creation;
+pub mod damage;
+pub mod numbers;
+pub mod record;
+pub mod region;
+pub mod report;
+pub mod runner;
+pub mod stream;
+pub mod subjects;
+pub mod table;
+pub mod vectors;
+pub mod world;
+
+/// A key of 32 bytes.
+pub type Key = [u8; 32];
+
+/// Said where there is nothing to compare with.
+pub const NOT_RUN: &str =
+    "compare: the published sources were not found, so the comparison was not run";

@@ -1,0 +1,125 @@
+//! What a comparison found: how often each answer was given, which were never
+//! reached, and the first differences.
+
+use std::{collections::BTreeMap, fmt};
+
+/// So many differences are kept in full; the others are counted.
+const KEPT: usize = 5;
+
+/// A function and the answers that its cases have to reach.
+#[derive(Clone, Debug)]
+pub struct Domain {
+    /// The function's name.
+    pub function: &'static str,
+    /// Its answers, or the kinds that they fall into.
+    pub answers: Vec<&'static str>,
+}
+
+/// One case on which two answers differ.
+#[derive(Clone, Debug)]
+pub struct Difference {
+    /// The function.
+    pub function: &'static str,
+    /// The seed of the comparison.
+    pub seed: u64,
+    /// The number of the case.
+    pub case: u64,
+    /// The inputs and both answers, each with its name.
+    pub parts: Vec<(&'static str, String)>,
+}
+
+/// The result of a comparison.
+pub struct Report {
+    domains: Vec<Domain>,
+    answered: BTreeMap<(&'static str, &'static str), u64>,
+    kept: Vec<Difference>,
+    differences: u64,
+}
+
+impl Report {
+    /// Nothing compared yet.
+    pub fn new(domains: Vec<Domain>) -> Self {
+        Self {
+            domains,
+            answered: BTreeMap::new(),
+            kept: Vec::new(),
+            differences: 0,
+        }
+    }
+
+    /// Counts an expected answer.
+    pub fn count(&mut self, function: &'static str, answer: &'static str) {
+        *self.answered.entry((function, answer)).or_default() += 1;
+    }
+
+    /// Counts a difference, and keeps it if it is among the first.
+    pub fn differ(&mut self, difference: impl FnOnce() -> Difference) {
+        self.differences += 1;
+        if self.kept.len() < KEPT {
+            self.kept.push(difference());
+        }
+    }
+
+    /// How many cases differed.
+    pub fn differences(&self) -> u64 {
+        self.differences
+    }
+
+    /// How often an answer was expected.
+    pub fn answered(&self, function: &'static str, answer: &'static str) -> u64 {
+        self.answered.get(&(function, answer)).copied().unwrap_or(0)
+    }
+
+    /// The answers that no case reached.
+    pub fn missing(&self) -> Vec<(&'static str, &'static str)> {
+        let all = self.domains.iter().flat_map(|domain| {
+            let answers = domain.answers.iter();
+            answers.map(|answer| (domain.function, *answer))
+        });
+        all.filter(|(function, answer)| self.answered(function, answer) == 0)
+            .collect()
+    }
+
+    /// Whether nothing differed and every answer was reached.
+    pub fn passed(&self) -> bool {
+        self.differences == 0 && self.missing().is_empty()
+    }
+}
+
+impl fmt::Display for Report {
+    fn fmt(&self, f: &mut fmt::Formatter) -> fmt::Result {
+        for domain in &self.domains {
+            writeln!(f, "{}", domain.function)?;
+            for answer in &domain.answers {
+                let times = self.answered(domain.function, answer);
+                writeln!(f, "  {times:>10}  {answer}")?;
+            }
+        }
+        for difference in &self.kept {
+            write!(f, "{difference}")?;
+        }
+        for (function, answer) in self.missing() {
+            writeln!(f, "never reached: {function}, {answer}")?;
+        }
+        match self.differences {
+            0 => writeln!(f, "no difference"),
+            all => writeln!(f, "{all} differences, {} shown", self.kept.len()),
+        }
+    }
+}
+
+impl fmt::Display for Difference {
+    fn fmt(&self, f: &mut fmt::Formatter) -> fmt::Result {
+        let Self {
+            function,
+            seed,
+            case,
+            parts,
+        } = self;
+        writeln!(f, "difference: {function}, seed {seed}, case {case}")?;
+        for (name, value) in parts {
+            writeln!(f, "  {name:<22}{value}")?;
+        }
+        Ok(())
+    }
+}

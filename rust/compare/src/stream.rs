@@ -1,0 +1,83 @@
+//! Streams of compact instructions.
+
+use crate::{chance::Chance, damage::damage};
+
+/// The most instructions that a stream may have.
+pub const MAX_INSTRUCTIONS: usize = 16;
+
+/// One compact instruction.
+#[derive(Clone, Debug)]
+pub struct Entry {
+    /// The index of the program's record.
+    pub program: u8,
+    /// The indexes of the accounts' records.
+    pub accounts: Vec<u8>,
+    /// The instruction's data.
+    pub data: Vec<u8>,
+}
+
+impl Entry {
+    /// An entry of the given program, the rest of it by chance.
+    pub fn draw(chance: &mut Chance, program: u8) -> Self {
+        let accounts = match chance.below(20) {
+            0 => 255,
+            few => few % 6,
+        };
+        let data = match chance.below(20) {
+            0 => 200 + chance.below(200),
+            few => few % 9,
+        };
+        Self {
+            program,
+            accounts: chance.bytes(accounts),
+            data: chance.bytes(data),
+        }
+    }
+}
+
+/// The stream's bytes: its count, then program index, accounts and data of each
+/// entry, the latter two behind their lengths.
+pub fn encode(entries: &[Entry]) -> Vec<u8> {
+    let mut bytes = vec![entries.len() as u8];
+    for entry in entries {
+        bytes.push(entry.program);
+        bytes.push(entry.accounts.len() as u8);
+        bytes.extend(&entry.accounts);
+        bytes.extend((entry.data.len() as u16).to_le_bytes());
+        bytes.extend(&entry.data);
+    }
+    bytes
+}
+
+/// Bytes to read as a stream: sound ones, with or without bytes after them,
+/// damaged ones, a count too high, and none at all.
+pub fn draw(chance: &mut Chance) -> Vec<u8> {
+    let count = match chance.below(20) {
+        0 => MAX_INSTRUCTIONS,
+        1 => MAX_INSTRUCTIONS + 1,
+        few => few % 5,
+    };
+    let entries: Vec<Entry> = (0..count)
+        .map(|_| {
+            let program = chance.draw() as u8;
+            Entry::draw(chance, program)
+        })
+        .collect();
+    let mut bytes = encode(&entries);
+    match chance.below(16) {
+        0..=3 => damage(chance, &mut bytes),
+        4 => bytes[0] = chance.draw() as u8,
+        5 => {
+            let more = chance.below(9);
+            bytes.extend(chance.bytes(more));
+        }
+        6 => {
+            // The last part ends with the stream, so a byte or two less cuts into it.
+            let len = bytes.len().saturating_sub(1 + chance.below(2));
+            bytes.truncate(len);
+        }
+        7 if chance.one_in(4) => bytes.clear(),
+        _ => {}
+    }
+    bytes
+}

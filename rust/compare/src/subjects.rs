@@ -1,0 +1,72 @@
+//! Who can be asked to create and to judge.
+//!
+//! A subject of its own is all that the runner needs to compare another
+//! implementation, such as the port behind its C boundary, with the published
+//! code: a region as bytes, in place where it is judged, and tables as bytes.
+
+use oracle::Oracle;
+
+use crate::{
+    calls::Call,
+    numbers::{BAD_REGION, BAD_TABLE, INVALID_INSTRUCTIONS},
+    region, table,
+};
+
+/// Something that creates and judges.
+pub trait Subject {
+    /// Creation: the number for a region.
+    fn create(&mut self, region: &[u8]) -> u32;
+
+    /// A judged call: the number, and the region as it is left.
+    fn judge(&mut self, region: &mut [u8], call: &Call) -> u32;
+}
+
+/// The published code. Outside its domain it has no answer to give, and
+/// document 01's steps 1 to 3 give theirs: 13, 3 and 15.
+#[derive(Clone, Copy)]
+pub struct Published(pub Oracle);
+
+impl Published {
+    /// Whether a region is in stored form: as new but for what was spent and
+    /// reset, creation accepts it.
+    pub fn is_stored(&self, region: &[u8]) -> bool {
+        let Some(mut actions) = region::cut(region) else {
+            return false;
+        };
+        for fields in actions.iter_mut().filter_map(|a| a.rule.recurring_mut()) {
+            fields.spent = 0;
+            fields.last_reset = 0;
+        }
+        self.0.create(&region::encode(&actions)) == 0
+    }
+}
+
+impl Subject for Published {
+    fn create(&mut self, region: &[u8]) -> u32 {
+        self.0.create(region)
+    }
+
+    fn judge(&mut self, region: &mut [u8], call: &Call) -> u32 {
+        let tables = (table::decode(&call.before), table::decode(&call.after));
+        let (Some(before), Some(after)) = tables else {
+            return BAD_TABLE;
+        };
+        if self.0.read(&call.instructions).is_err() {
+            return INVALID_INSTRUCTIONS;
+        }
+        if !self.is_stored(region) {
+            return BAD_REGION;
+        }
+        let call = oracle::Call {
+            before: &before,
+            after: &after,
+            instructions: &call.instructions,
+            vault: &call.vault,
+            slot: call.slot,
+            lamports_before: call.lamports_before,
+            lamports_after: call.lamports_after,
+            gross: call.gross,
+        };
+        self.0.judge(region, &call)
+    }
+}

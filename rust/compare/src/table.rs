@@ -1,0 +1,131 @@
+//! Account tables: typed records and document 01's bytes of them.
+
+pub use oracle::Record;
+
+use crate::{bytes::Cursor, Key};
+
+/// The most records that a table may have.
+pub const MAX_RECORDS: usize = 64;
+
+/// The least data of a token account.
+pub const TOKEN_ACCOUNT: usize = 165;
+
+/// The place of a token account's amount in its data.
+pub const AMOUNT: usize = 64;
+
+/// The SPL Token program.
+pub const SPL_TOKEN: Key = [
+    6, 221, 246, 225, 215, 101, 161, 147, 217, 203, 225, 70, 206, 235, 121, 172, 28, 180, 133, 237,
+    95, 91, 55, 145, 58, 140, 245, 133, 126, 255, 0, 169,
+];
+
+/// The Token-2022 program.
+pub const TOKEN_2022: Key = [
+    6, 221, 246, 225, 238, 117, 143, 222, 170, 164, 12, 4, 223, 116, 174, 240, 70, 137, 163, 89,
+    77, 149, 128, 12, 61, 73, 196, 253, 210, 164, 82, 159,
+];
+
+/// The table's bytes: its count, then key, owning program, data length and data
+/// of each record.
+pub fn encode(records: &[Record]) -> Vec<u8> {
+    let mut bytes = (records.len() as u16).to_le_bytes().to_vec();
+    for record in records {
+        bytes.extend(record.key);
+        bytes.extend(record.owner);
+        bytes.extend((record.data.len() as u32).to_le_bytes());
+        bytes.extend(&record.data);
+    }
+    bytes
+}
+
+/// The records of a well-formed table.
+pub fn decode(bytes: &[u8]) -> Option<Vec<Record>> {
+    let mut cursor = Cursor::new(bytes);
+    let count = usize::from(u16::from_le_bytes(cursor.array()?));
+    if count > MAX_RECORDS {
+        return None;
+    }
+    let mut record = || {
+        Some(Record {
+            key: cursor.array()?,
+            owner: cursor.array()?,
+            data: {
+                let len = u32::from_le_bytes(cursor.array()?);
+                cursor.take(len as usize)?.to_vec()
+            },
+        })
+    };
+    let records = (0..count).map(|_| record()).collect::<Option<_>>()?;
+    cursor.is_done().then_some(records)
+}
+
+/// The mint and the amount of a counted token account.
+///
+/// The generator aims with it and the runner's tests are made with it. No
+/// expected answer comes from it.
+pub fn counted(record: &Record, vault: &Key) -> Option<(Key, u64)> {
+    let token_program = [SPL_TOKEN, TOKEN_2022].contains(&record.owner);
+    if !token_program || record.data.len() < TOKEN_ACCOUNT {
+        return None;
+    }
+    let mut cursor = Cursor::new(&record.data);
+    let mint = cursor.array()?;
+    let holder: Key = cursor.array()?;
+    (holder == *vault).then_some((mint, u64::from_le_bytes(cursor.array()?)))
+}
+
+/// A mint's balance, for aiming as [`counted`] is.
+pub fn balance(records: &[Record], vault: &Key, mint: &Key) -> u64 {
+    let amounts = records.iter().filter_map(|record| counted(record, vault));
+    amounts
+        .filter(|(of, _)| of == mint)
+        .fold(0, |sum, (_, amount)| sum.saturating_add(amount))
+}
+
+#[cfg(test)]
+mod tests {
+    use super::*;
+
+    fn record(owner: Key, len: usize) -> Record {
+        Record {
+            key: [1; 32],
+            owner,
+            data: vec![2; len],
+        }
+    }
+
+    #[test]
+    fn a_table_comes_back() {
+        let records = [record(SPL_TOKEN, 0), record([3; 32], 200)];
+        let bytes = encode(&records);
+        assert_eq!(bytes.len(), 2 + 2 * 68 + 200);
+        assert_eq!(decode(&bytes).unwrap(), records);
+        assert_eq!(decode(&[0, 0]).unwrap(), []);
+    }
+
+    #[test]
+    fn malformed_tables_are_none() {
+        let bytes = encode(&[record(SPL_TOKEN, 3)]);
+        for len in 0..bytes.len() {
+            assert_eq!(decode(&bytes[..len]), None);
+        }
+        assert_eq!(decode(&[&bytes[..], &[0]].concat()), None);
+        let full = vec![record(SPL_TOKEN, 1); MAX_RECORDS];
+        assert!(decode(&encode(&full)).is_some());
+        let over = vec![record(SPL_TOKEN, 1); MAX_RECORDS + 1];
+        assert_eq!(decode(&encode(&over)), None);
+    }
+
+    #[test]
+    fn a_balance_is_the_capped_sum() {
+        // Mint and vault are both the key of twos, and so is the amount.
+        let (mint, vault) = ([2; 32], [2; 32]);
+        let amount = u64::from_le_bytes([2; 8]);
+        let two = [record(SPL_TOKEN, 165), record(TOKEN_2022, 355)];
+        assert_eq!(balance(&two, &vault, &mint), 2 * amount);
+        let none = [record([3; 32], 165), record(SPL_TOKEN, 164)];
+        assert_eq!(balance(&none, &vault, &mint), 0);
+        let many = vec![record(SPL_TOKEN, 165); 128];
+        assert_eq!(balance(&many, &vault, &mint), u64::MAX);
+    }
+}

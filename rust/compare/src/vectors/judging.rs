@@ -1,0 +1,137 @@
+//! Judged calls as the program reads them: a replay's input of one call.
+
+use oracle::Oracle;
+
+use crate::{
+    bytes::{hex, Cursor},
+    calls::{self, Call},
+    chance::Chance,
+    numbers,
+    subjects::{Published, Subject},
+};
+
+/// The most bytes that the tables and the instructions of a call may have
+/// together: the program reads no more.
+const MAX_PARTS: usize = 60_000;
+
+/// The line of a judged call, and its sort.
+pub fn answer(oracle: &Oracle, payload: Cursor) -> Option<(String, &'static str)> {
+    let (mut region, call) = decode(payload)?;
+    let number = Published(*oracle).judge(&mut region, &call);
+    let line = format!("{number} {}", hex(&region));
+    Some((line, numbers::name(number)))
+}
+
+/// A region and a call that the program reads.
+pub fn draw(chance: &mut Chance) -> Vec<u8> {
+    loop {
+        let (region, call) = calls::draw(chance);
+        if parts(&call).iter().map(|part| part.len()).sum::<usize>() <= MAX_PARTS {
+            return encode(&region, &call);
+        }
+    }
+}
+
+fn parts(call: &Call) -> [&[u8]; 3] {
+    [&call.before, &call.after, &call.instructions]
+}
+
+fn encode(region: &[u8], call: &Call) -> Vec<u8> {
+    let mut bytes = (region.len() as u16).to_le_bytes().to_vec();
+    bytes.extend(region);
+    for number in [
+        call.slot,
+        call.lamports_before,
+        call.lamports_after,
+        call.gross,
+    ] {
+        bytes.extend(number.to_le_bytes());
+    }
+    let parts = parts(call);
+    for part in parts {
+        bytes.extend((part.len() as u32).to_le_bytes());
+    }
+    bytes.extend(call.vault);
+    bytes.extend(parts.concat());
+    bytes
+}
+
+fn decode(mut payload: Cursor) -> Option<(Vec<u8>, Call)> {
+    let len = u16::from_le_bytes(payload.array()?);
+    let region = payload.take(len.into())?.to_vec();
+    let numbers = [(); 4].map(|()| payload.u64());
+    let lengths = [(); 3].map(|()| payload.length());
+    let vault = payload.array()?;
+    let mut part = |len: Option<usize>| Some(payload.take(len?)?.to_vec());
+    let call = Call {
+        before: part(lengths[0])?,
+        after: part(lengths[1])?,
+        instructions: part(lengths[2])?,
+        vault,
+        slot: numbers[0]?,
+        lamports_before: numbers[1]?,
+        lamports_after: numbers[2]?,
+        gross: numbers[3]?,
+    };
+    Some((region, call))
+}
+
+#[cfg(test)]
+mod tests {
+    use super::*;
+    use crate::region::{self, Action, Rule};
+
+    /// A region of one limit on SOL, and a call that takes 7 of it.
+    fn limited(remaining: u64) -> (Vec<u8>, Call) {
+        let limit = Action {
+            expires_at: 0,
+            rule: Rule::SolLimit(remaining),
+        };
+        let call = Call {
+            before: vec![0, 0],
+            after: vec![0, 0],
+            instructions: vec![0],
+            vault: [1; 32],
+            slot: 2,
+            lamports_before: 10,
+            lamports_after: 3,
+            gross: 7,
+        };
+        (region::encode(&[limit]), call)
+    }
+
+    #[test]
+    fn a_call_comes_back() {
+        let (region, call) = limited(9);
+        let bytes = encode(&region, &call);
+        assert_eq!(bytes.len(), 2 + 19 + 76 + 5);
+        let (again, call_again) = decode(Cursor::new(&bytes)).unwrap();
+        assert_eq!(encode(&again, &call_again), bytes);
+        assert_eq!(again, region);
+        for len in 0..bytes.len() {
+            assert!(decode(Cursor::new(&bytes[..len])).is_none());
+        }
+    }
+
+    #[test]
+    #[cfg_attr(not(oracle_sources), ignore)]
+    fn calls() {
+        let oracle = Oracle::find().expect("ignored where the sources were not found");
+        let says = |(region, call): (Vec<u8>, Call), expected: &str| {
+            let payload = encode(&region, &call);
+            let (line, _) = answer(&oracle, Cursor::new(&payload)).unwrap();
+            assert_eq!(line, expected);
+        };
+        let region = "0108000000000000000000";
+        says(limited(9), &format!("0 {region}0200000000000000"));
+        says(limited(6), &format!("7 {region}0600000000000000"));
+        let (_, call) = limited(9);
+        says((vec![], call.clone()), "0 ");
+        says((vec![1], call.clone()), "15 01");
+        let table = Call {
+            after: vec![0],
+            ..call
+        };
+        says((vec![], table), "13 ");
+    }
+}

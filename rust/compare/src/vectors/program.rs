@@ -1,0 +1,107 @@
+//! Asking the program and holding its lines beside the expected ones.
+
+use std::{
+    io::{self, Write},
+    process::{Command, Stdio},
+    thread,
+};
+
+use oracle::Oracle;
+
+use super::{answer, draw, encode, Case, Kind};
+use crate::{
+    bytes::hex,
+    chance::Chance,
+    report::{Difference, Report},
+};
+
+/// Cases of so many bytes go to one start of the program.
+const BATCH: usize = 50_000;
+
+/// The lines that a program prints for the cases. One more says so where the
+/// program fails, and stands for the case at which it did.
+pub fn ask(program: &mut Command, cases: &[Case]) -> io::Result<Vec<String>> {
+    let mut child = program
+        .stdin(Stdio::piped())
+        .stdout(Stdio::piped())
+        .spawn()?;
+    let mut stdin = child.stdin.take().expect("standard input is piped");
+    let input = encode(cases);
+    // Written beside the reading: the program may print before it has read everything. One that
+    // stops reading early is judged by its lines.
+    let writer = thread::spawn(move || drop(stdin.write_all(&input)));
+    let output = child.wait_with_output()?;
+    writer.join().expect("the writer does not panic");
+    let text = String::from_utf8_lossy(&output.stdout);
+    let mut lines: Vec<String> = text.lines().map(str::to_string).collect();
+    if !output.status.success() {
+        lines.push(format!("ended with {}", output.status));
+    }
+    Ok(lines)
+}
+
+/// Compares the program's lines with the expected ones, on so many cases of
+/// each of the kinds.
+pub fn compare(
+    oracle: &Oracle,
+    program: &mut Command,
+    kinds: &[Kind],
+    seed: u64,
+    cases: u64,
+) -> io::Result<Report> {
+    let mut report = Report::new(kinds.iter().copied().map(Kind::domain).collect());
+    let numbered = |kind: Kind| {
+        (0..cases).map(move |number| {
+            let mut chance = Chance::of_case(seed, kind.name(), number);
+            (number, draw(&mut chance, kind, number))
+        })
+    };
+    let mut drawn = kinds.iter().copied().flat_map(numbered);
+    loop {
+        let (numbers, cases) = batch(&mut drawn);
+        if cases.is_empty() {
+            return Ok(report);
+        }
+        let mut lines = ask(program, &cases)?.into_iter();
+        for (number, case) in numbers.into_iter().zip(&cases) {
+            let expected = answer(oracle, case).expect("drawn payloads are long enough");
+            report.count(case.kind.name(), expected.sort);
+            let got = lines.next().unwrap_or("no line".to_string());
+            if got != expected.line {
+                report.differ(|| Difference {
+                    function: case.kind.name(),
+                    seed,
+                    case: number,
+                    parts: vec![
+                        ("payload", hex(&case.payload)),
+                        ("expected", expected.line),
+                        ("got", got),
+                    ],
+                });
+            }
+        }
+        if let Some(surplus) = lines.next() {
+            report.differ(|| Difference {
+                function: "a line more than cases",
+                seed,
+                case: cases.len() as u64,
+                parts: vec![("got", surplus)],
+            });
+        }
+    }
+}
+
+/// The next cases with their numbers, so many that they make a batch.
+fn batch(drawn: &mut impl Iterator<Item = (u64, Case)>) -> (Vec<u64>, Vec<Case>) {
+    let (mut numbers, mut cases) = (Vec::new(), Vec::new());
+    let mut size = 0;
+    while size < BATCH {
+        let Some((number, case)) = drawn.next() else {
+            break;
+        };
+        size += case.payload.len();
+        numbers.push(number);
+        cases.push(case);
+    }
+    (numbers, cases)
+}

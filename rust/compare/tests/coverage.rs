@@ -1,0 +1,154 @@
+//! What the drawn cases reach.
+
+use compare::{
+    breach::{Breach, BREACHES},
+    calls::{self, Call},
+    chance::Chance,
+    creation,
+    numbers::{self, CREATION, JUDGING},
+    region,
+    runner::{self, CREATE, JUDGE},
+    stream,
+    subjects::{Published, Subject},
+    vectors::{answer, draw, Kind, KINDS},
+};
+use oracle::Oracle;
+
+const CASES: u64 = 3000;
+
+fn published() -> Published {
+    Published(Oracle::find().expect("ignored where the sources were not found"))
+}
+
+/// Written past the test harness, which keeps what a passing test prints.
+#[test]
+#[cfg(not(oracle_sources))]
+fn says_that_the_comparison_is_not_run() {
+    use std::io::{self, Write};
+    writeln!(io::stderr(), "{}", compare::NOT_RUN).unwrap();
+}
+
+#[test]
+#[cfg_attr(not(oracle_sources), ignore)]
+fn every_number_is_answered_often() {
+    let mut right = published();
+    let report = runner::compare(&mut right.clone(), &mut right, 1, CASES);
+    for (function, numbers) in [(CREATE, &CREATION[..]), (JUDGE, &JUDGING[..])] {
+        for number in numbers {
+            let times = report.answered(function, numbers::name(*number));
+            assert!(times > CASES / 100, "{report}");
+        }
+    }
+}
+
+#[test]
+fn a_number_that_is_never_reached_fails() {
+    /// Agrees with itself, and reaches next to nothing.
+    struct Refuses;
+    impl Subject for Refuses {
+        fn create(&mut self, _: &[u8]) -> u32 {
+            1
+        }
+        fn judge(&mut self, _: &mut [u8], _: &Call) -> u32 {
+            3
+        }
+    }
+    let report = runner::compare(&mut Refuses, &mut Refuses, 1, 50);
+    assert_eq!(report.differences(), 0);
+    assert!(!report.passed());
+    let missing = report.missing();
+    assert_eq!(missing.len(), 2 + 12);
+    assert!(missing.contains(&(CREATE, "0 accepted")));
+    assert!(report
+        .to_string()
+        .contains("never reached: judge, 7 Action"));
+}
+
+#[test]
+#[cfg_attr(not(oracle_sources), ignore)]
+fn each_breach_has_its_number_alone_and_beside_another() {
+    let mut right = published();
+    // The first broken rule decides, and only (c) has the number 2.
+    let number = |breaches: &[Breach]| {
+        let conflict = BREACHES.iter().position(|b| *b == Breach::BothLists);
+        let broken = breaches
+            .iter()
+            .map(|b| BREACHES.iter().position(|o| o == b));
+        match broken.min() {
+            None => 0,
+            Some(first) if first == conflict => 2,
+            Some(_) => 1,
+        }
+    };
+    let pairs = BREACHES.iter().flat_map(|a| BREACHES.map(|b| vec![*a, b]));
+    for breaches in pairs.chain(BREACHES.map(|b| vec![b])).chain([vec![]]) {
+        for seed in 0..40 {
+            let region = creation::region(&mut Chance::new(seed), &breaches);
+            let expected = number(&breaches);
+            assert_eq!(right.create(&region), expected, "{breaches:?}, seed {seed}");
+        }
+    }
+}
+
+#[test]
+#[cfg_attr(not(oracle_sources), ignore)]
+fn every_kind_of_vector_reaches_its_answers() {
+    let Published(oracle) = published();
+    for kind in KINDS {
+        // The judged call has the most answers, and most of its cases are accepted.
+        let cases = if kind == Kind::Judge { CASES } else { 200 };
+        let mut sorts = Vec::new();
+        for number in 0..cases {
+            let case = draw(&mut Chance::new(number), kind, number);
+            sorts.push(answer(&oracle, &case).unwrap().sort);
+        }
+        for sort in kind.domain().answers {
+            let times = sorts.iter().filter(|s| **s == sort).count();
+            assert!(times >= 10, "{}: {sort} {times} times", kind.name());
+        }
+    }
+}
+
+#[test]
+#[cfg_attr(not(oracle_sources), ignore)]
+fn what_was_read_is_written_again() {
+    let Published(oracle) = published();
+    for seed in 0..CASES {
+        let bytes = stream::draw(&mut Chance::new(seed));
+        if let Ok((list, consumed)) = oracle.read(&bytes) {
+            assert_eq!(
+                oracle.write(&bytes, &list),
+                bytes[..consumed],
+                "seed {seed}"
+            );
+        }
+    }
+}
+
+#[test]
+#[cfg_attr(not(oracle_sources), ignore)]
+fn a_refusal_leaves_the_region_as_it_was() {
+    let mut right = published();
+    for case in 0..CASES {
+        let (region, call) = calls::draw(&mut Chance::of_case(1, JUDGE, case));
+        let mut left = region.clone();
+        if right.judge(&mut left, &call) != 0 {
+            assert_eq!(left, region, "case {case}");
+        }
+    }
+}
+
+#[test]
+#[cfg_attr(not(oracle_sources), ignore)]
+fn a_region_that_creation_accepts_is_stored_and_cut() {
+    let mut right = published();
+    for case in 0..CASES {
+        let region = creation::draw(&mut Chance::of_case(1, CREATE, case));
+        if right.create(&region) == 0 {
+            assert!(right.is_stored(&region), "case {case}");
+        }
+        if let Some(actions) = region::cut(&region) {
+            assert_eq!(region::encode(&actions), region, "case {case}");
+        }
+    }
+}

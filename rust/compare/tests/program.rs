@@ -1,0 +1,115 @@
+//! The command line, and the program `vectors` as the runner sees it: `compare
+//! answer` stands in for it.
+
+use std::{
+    env, fs, process,
+    process::{Command, Output, Stdio},
+};
+
+use compare::{
+    vectors::{self, KINDS},
+    NOT_RUN,
+};
+use oracle::Oracle;
+
+fn compare() -> Command {
+    let mut command = Command::new(env!("CARGO_BIN_EXE_compare"));
+    command.env_remove("THIMBLEFORD_VECTORS");
+    command
+}
+
+fn published() -> Oracle {
+    Oracle::find().expect("ignored where the sources were not found")
+}
+
+fn kinds() -> u64 {
+    KINDS.len() as u64
+}
+
+fn output(arguments: &[&str]) -> Output {
+    compare().args(arguments).output().unwrap()
+}
+
+fn status(arguments: &[&str]) -> Option<i32> {
+    output(arguments).status.code()
+}
+
+#[test]
+#[cfg_attr(not(oracle_sources), ignore)]
+fn a_right_program_passes() {
+    let oracle = published();
+    let report = vectors::compare(&oracle, compare().arg("answer"), &KINDS, 2, 300).unwrap();
+    assert!(report.passed(), "{report}");
+}
+
+/// Each line of the help is taken for an answer, and so are those that are not there. A blank one
+/// may be right where a key is looked up.
+#[test]
+#[cfg_attr(not(oracle_sources), ignore)]
+fn other_lines_differ() {
+    let oracle = published();
+    let report = vectors::compare(&oracle, compare().arg("help"), &KINDS, 2, 30).unwrap();
+    assert!(report.differences() >= 30 * (kinds() - 1));
+    let text = report.to_string();
+    assert!(
+        text.contains("difference: read_u64, seed 2, case 0"),
+        "{text}"
+    );
+}
+
+#[test]
+#[cfg_attr(not(oracle_sources), ignore)]
+fn surplus_lines_and_a_failing_program_differ() {
+    let oracle = published();
+    let report = vectors::compare(&oracle, compare().arg("help"), &KINDS, 2, 1).unwrap();
+    assert_eq!(report.differences(), kinds() + 1);
+    let mut failing = compare();
+    failing.arg("no command").stderr(Stdio::null());
+    let report = vectors::compare(&oracle, &mut failing, &KINDS, 2, 1).unwrap();
+    assert_eq!(report.differences(), kinds());
+    assert!(report.to_string().contains("ended with exit status: 2"));
+}
+
+#[test]
+#[cfg_attr(not(oracle_sources), ignore)]
+fn a_program_that_is_not_there_is_an_error() {
+    assert_eq!(status(&["run", "--vectors", "/no such program"]), Some(2));
+}
+
+#[test]
+fn what_is_not_compared_is_said_in_one_line() {
+    let output = output(&["run"]);
+    assert!(output.status.success() && output.stdout.is_empty());
+    let text = String::from_utf8(output.stderr).unwrap();
+    assert_eq!(text.lines().count(), 1);
+    assert_eq!(text.trim_end() == NOT_RUN, !oracle::AVAILABLE);
+}
+
+#[test]
+#[cfg_attr(not(oracle_sources), ignore)]
+fn the_sample_is_recorded_and_checked() {
+    let dir = env::temp_dir().join(format!("compare-record-{}", process::id()));
+    let out = dir.to_str().unwrap();
+    assert_eq!(status(&["record", "--out", out, "--check"]), Some(1));
+    assert_eq!(status(&["record", "--out", out]), Some(0));
+    assert_eq!(status(&["record", "--out", out, "--check"]), Some(0));
+    fs::write(dir.join("stdout"), "0\n").unwrap();
+    assert_eq!(status(&["record", "--out", out, "--check"]), Some(1));
+    fs::remove_dir_all(dir).unwrap();
+}
+
+#[test]
+fn the_command_line() {
+    assert_eq!(status(&["--help"]), Some(0));
+    assert_eq!(status(&["run", "--help"]), Some(0));
+    for wrong in [
+        &[][..],
+        &["walk"],
+        &["run", "--cases"],
+        &["run", "--seed", "x"],
+    ] {
+        assert_eq!(status(wrong), Some(2), "{wrong:?}");
+    }
+    assert_eq!(status(&["run", "--check"]), Some(2));
+    assert_eq!(status(&["answer", "--seed", "1"]), Some(2));
+}
