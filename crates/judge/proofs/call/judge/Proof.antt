@@ -2,27 +2,91 @@
 -- Assumes nothing.
 use Prim.Native.Nat.{ℕ}
 use mathlib.Core.Path.{_≡_, refl, sym, ap, _∙_}
+use mathlib.Core.Bool.{true}
 use mathlib.Core.List.{List}
 use native.Mathlib.Omega.{arith}
+use borrow.Author.Needs.{needs}
 use borrow.Author.Tests.{not-true, not-false}
 use lib.ListN.{length}
 use Rattle.answer.specs.Numbers.{accepts}
 use Rattle.number.specs.Number.{Bytes}
 use Rattle.action.specs.declared.Parsed.{Parsed}
+use Rattle.action.specs.Creation.{storedActions}
 use Rattle.compact.specs.declared.Parsed.{Parsed as ReadList}
+use Rattle.compact.specs.Compact.{decode}
 use Rattle.account.specs.declared.Table.{Table}
-use Rattle.judge.specs.Judge.{Call}
+use Rattle.account.specs.Table.{cutTable}
+use Rattle.judge.specs.Judge.{Call, answerOf, readAnswer}
 use Rattle.judge.specs.Views.{programsIn}
 use Rattle.judge.proofs.Outflow.{decreased}
 use Rattle.judge.proofs.Steps.{records-before, records-after, table-answer, read-answer, region-answer, programs-read, vault-refused, before-refused, after-refused, instructions-refused, region-refused, judged-cut}
-use borrow.Author.Needs.{needs}
 use Rattle.judge.proofs.call.judge.Statement.{statement}
 use Rattle.judge.proofs.call.judge.Tie as tie
 
--- the call that some arguments make
-abbrev callOf : List ℕ → List ℕ → List ℕ → List ℕ → ℕ → ℕ → ℕ → ℕ → Call
-callOf before after instructions vault slot lamports-before lamports-after gross =
-    record { before = before; after = after; instructions = instructions; vault = vault; slot = slot; lamportsBefore = lamports-before; lamportsAfter = lamports-after; gross = gross }
+-- the call that the arguments make, and the region at entry
+abbrev call-of : tie.Start → Call
+call-of start = record {
+  before = start .args .before .now;
+  after = start .args .after .now;
+  instructions = start .args .instructions .now;
+  vault = start .args .vault .now;
+  slot = start .args .slot;
+  lamportsBefore = start .args .lamports-before;
+  lamportsAfter = start .args .lamports-after;
+  gross = start .args .gross;
+}
+
+abbrev region-of : tie.Start → List ℕ
+region-of start = start .args .region .now
+
+-- where each step that was passed began
+abbrev start-1 : tie.Else1 → tie.Start
+start-1 c = c .before .before .before .before .before .before
+
+abbrev one-of : tie.Else2 → tie.Else1
+one-of c = c .before .before .before
+
+abbrev two-of : tie.Else3 → tie.Else2
+two-of c = c .before .before .before
+
+abbrev three-of : tie.Else4 → tie.Else3
+three-of c = c .before .before .before
+
+abbrev four-of : tie.Else5 → tie.Else4
+four-of c = c .before .before .before .before
+
+-- ---- what each step that was passed says
+
+vault-is : (c : tie.Else1) → length (call-of (start-1 c) .vault) ≡ 32
+vault-is c = omega arith
+
+before-is : (c : tie.After-cut-table) → c .cut-table .result .answer ≡ answerOf (cutTable (call-of (start-1 (c .before)) .before))
+before-is c = ap (λ (t : Table). t .answer) (c .cut-table .ensures) ∙ table-answer _
+
+before-sound : (c : tie.Else2) → accepts (answerOf (cutTable (call-of (start-1 (one-of c)) .before))) ≡ true
+before-sound c = sym (ap accepts (before-is (c .before .before))) ∙ sym (c .before .accepts .ensures) ∙ not-false _ (c .if2 .left)
+
+after-is : (c : tie.After-cut-table2) → c .cut-table2 .result .answer ≡ answerOf (cutTable (call-of (start-1 (one-of (c .before))) .after))
+after-is c = ap (λ (t : Table). t .answer) (c .cut-table2 .ensures) ∙ table-answer _
+
+after-sound : (c : tie.Else3) → accepts (answerOf (cutTable (call-of (start-1 (one-of (two-of c))) .after))) ≡ true
+after-sound c = sym (ap accepts (after-is (c .before .before))) ∙ sym (c .before .accepts2 .ensures) ∙ not-false _ (c .if3 .left)
+
+read-is : (c : tie.After-parse-compact-instructions)
+    → c .parse-compact-instructions .result .answer ≡ readAnswer (decode (call-of (start-1 (one-of (two-of (c .before)))) .instructions))
+read-is c = ap (λ (p : ReadList). p .answer) (c .parse-compact-instructions .ensures) ∙ read-answer _
+
+read-sound : (c : tie.Else4) → accepts (readAnswer (decode (call-of (start-1 (one-of (two-of (three-of c)))) .instructions))) ≡ true
+read-sound c = sym (ap accepts (read-is (c .before .before))) ∙ sym (c .before .accepts3 .ensures) ∙ not-false _ (c .if4 .left)
+
+region-is : (c : tie.After-stored-actions)
+    → c .stored-actions .result .answer ≡ answerOf (storedActions (region-of (start-1 (one-of (two-of (three-of (c .before .before)))))))
+region-is c = ap (λ (p : Parsed). p .answer) (c .stored-actions .ensures) ∙ region-answer _
+
+region-sound : (c : tie.Else5) → accepts (answerOf (storedActions (region-of (start-1 (one-of (two-of (three-of (four-of c)))))))) ≡ true
+region-sound c = sym (ap accepts (region-is (c .before .before))) ∙ sym (c .before .accepts4 .ensures) ∙ not-false _ (c .if5 .left)
+
+-- ---- each step
 
 of-requires : tie.Need-of-requires
 of-requires c κs = search needs
@@ -30,9 +94,7 @@ of-requires c κs = search needs
 returns : tie.Need-returns
 returns c =
     let start = c .before .before .before .before .before .before .before in
-    let region = start .args .region .now in
-    let call : Call = callOf (start .args .before .now) (start .args .after .now) (start .args .instructions .now) (start .args .vault .now) (start .args .slot) (start .args .lamports-before) (start .args .lamports-after) (start .args .gross) in
-    let refusal = vault-refused region call (omega arith) in
+    let refusal = vault-refused (region-of start) (call-of start) (omega arith) in
     (c .of .ensures ∙ refusal .0, refusal .1)
 
 cut-table-requires : tie.Need-cut-table-requires
@@ -43,15 +105,12 @@ accepts-requires c κs = search needs
 
 returns-2 : tie.Need-returns-2
 returns-2 c =
-    let two = c .before in
-    let cut-before = two .before .before in
-    let start = cut-before .before .before .before .before .before .before .before in
-    let region = start .args .region .now in
-    let call : Call = callOf (start .args .before .now) (start .args .after .now) (start .args .instructions .now) (start .args .vault .now) (start .args .slot) (start .args .lamports-before) (start .args .lamports-after) (start .args .gross) in
-    let v : length (start .args .vault .now) ≡ 32 = omega arith in
-    let before-is = ap (λ (t : Table). t .answer) (cut-before .cut-table .ensures) ∙ table-answer _ in
-    let refusal = before-refused region call v (sym (ap accepts before-is) ∙ sym (two .before .accepts .ensures) ∙ not-true _ (two .if2 .taken)) in
-    (before-is ∙ refusal .0, refusal .1)
+    let asked = c .before .before in
+    let cut = asked .before in
+    let one = cut .before in
+    let start = start-1 one in
+    let refusal = before-refused (region-of start) (call-of start) (vault-is one) (sym (ap accepts (before-is cut)) ∙ sym (asked .accepts .ensures) ∙ not-true _ (c .before .if2 .taken)) in
+    (before-is cut ∙ refusal .0, refusal .1)
 
 cut-table-requires-2 : tie.Need-cut-table-requires-2
 cut-table-requires-2 c κs = search needs
@@ -61,19 +120,13 @@ accepts-requires-2 c κs = search needs
 
 returns-3 : tie.Need-returns-3
 returns-3 c =
-    let three = c .before in
-    let cut-after = three .before .before in
-    let two = cut-after .before in
-    let cut-before = two .before .before in
-    let start = cut-before .before .before .before .before .before .before .before in
-    let region = start .args .region .now in
-    let call : Call = callOf (start .args .before .now) (start .args .after .now) (start .args .instructions .now) (start .args .vault .now) (start .args .slot) (start .args .lamports-before) (start .args .lamports-after) (start .args .gross) in
-    let v : length (start .args .vault .now) ≡ 32 = omega arith in
-    let before-is = ap (λ (t : Table). t .answer) (cut-before .cut-table .ensures) ∙ table-answer _ in
-    let b = sym (ap accepts before-is) ∙ sym (two .before .accepts .ensures) ∙ not-false _ (two .if2 .left) in
-    let after-is = ap (λ (t : Table). t .answer) (cut-after .cut-table2 .ensures) ∙ table-answer _ in
-    let refusal = after-refused region call v b (sym (ap accepts after-is) ∙ sym (three .before .accepts2 .ensures) ∙ not-true _ (three .if3 .taken)) in
-    (after-is ∙ refusal .0, refusal .1)
+    let asked = c .before .before in
+    let cut = asked .before in
+    let two = cut .before in
+    let one = one-of two in
+    let start = start-1 one in
+    let refusal = after-refused (region-of start) (call-of start) (vault-is one) (before-sound two) (sym (ap accepts (after-is cut)) ∙ sym (asked .accepts2 .ensures) ∙ not-true _ (c .before .if3 .taken)) in
+    (after-is cut ∙ refusal .0, refusal .1)
 
 parse-compact-instructions-requires : tie.Need-parse-compact-instructions-requires
 parse-compact-instructions-requires c κs = search needs
@@ -83,23 +136,14 @@ accepts-requires-3 c κs = search needs
 
 returns-4 : tie.Need-returns-4
 returns-4 c =
-    let four = c .before in
-    let read = four .before .before in
+    let asked = c .before .before in
+    let read = asked .before in
     let three = read .before in
-    let cut-after = three .before .before in
-    let two = cut-after .before in
-    let cut-before = two .before .before in
-    let start = cut-before .before .before .before .before .before .before .before in
-    let region = start .args .region .now in
-    let call : Call = callOf (start .args .before .now) (start .args .after .now) (start .args .instructions .now) (start .args .vault .now) (start .args .slot) (start .args .lamports-before) (start .args .lamports-after) (start .args .gross) in
-    let v : length (start .args .vault .now) ≡ 32 = omega arith in
-    let before-is = ap (λ (t : Table). t .answer) (cut-before .cut-table .ensures) ∙ table-answer _ in
-    let b = sym (ap accepts before-is) ∙ sym (two .before .accepts .ensures) ∙ not-false _ (two .if2 .left) in
-    let after-is = ap (λ (t : Table). t .answer) (cut-after .cut-table2 .ensures) ∙ table-answer _ in
-    let a = sym (ap accepts after-is) ∙ sym (three .before .accepts2 .ensures) ∙ not-false _ (three .if3 .left) in
-    let read-is = ap (λ (p : ReadList). p .answer) (read .parse-compact-instructions .ensures) ∙ read-answer _ in
-    let refusal = instructions-refused region call v b a (sym (ap accepts read-is) ∙ sym (four .before .accepts3 .ensures) ∙ not-true _ (four .if4 .taken)) in
-    (read-is ∙ refusal .0, refusal .1)
+    let two = two-of three in
+    let one = one-of two in
+    let start = start-1 one in
+    let refusal = instructions-refused (region-of start) (call-of start) (vault-is one) (before-sound two) (after-sound three) (sym (ap accepts (read-is read)) ∙ sym (asked .accepts3 .ensures) ∙ not-true _ (c .before .if4 .taken)) in
+    (read-is read ∙ refusal .0, refusal .1)
 
 stored-actions-requires : tie.Need-stored-actions-requires
 stored-actions-requires c κs = search needs
@@ -112,27 +156,15 @@ same-length c = search needs
 
 returns-5 : tie.Need-returns-5
 returns-5 c =
-    let five = c .before in
-    let cut-region = five .before .before in
-    let four = cut-region .before .before in
-    let read = four .before .before in
-    let three = read .before in
-    let cut-after = three .before .before in
-    let two = cut-after .before in
-    let cut-before = two .before .before in
-    let start = cut-before .before .before .before .before .before .before .before in
-    let region = start .args .region .now in
-    let call : Call = callOf (start .args .before .now) (start .args .after .now) (start .args .instructions .now) (start .args .vault .now) (start .args .slot) (start .args .lamports-before) (start .args .lamports-after) (start .args .gross) in
-    let v : length (start .args .vault .now) ≡ 32 = omega arith in
-    let before-is = ap (λ (t : Table). t .answer) (cut-before .cut-table .ensures) ∙ table-answer _ in
-    let b = sym (ap accepts before-is) ∙ sym (two .before .accepts .ensures) ∙ not-false _ (two .if2 .left) in
-    let after-is = ap (λ (t : Table). t .answer) (cut-after .cut-table2 .ensures) ∙ table-answer _ in
-    let a = sym (ap accepts after-is) ∙ sym (three .before .accepts2 .ensures) ∙ not-false _ (three .if3 .left) in
-    let read-is = ap (λ (p : ReadList). p .answer) (read .parse-compact-instructions .ensures) ∙ read-answer _ in
-    let i = sym (ap accepts read-is) ∙ sym (four .before .accepts3 .ensures) ∙ not-false _ (four .if4 .left) in
-    let region-is = ap (λ (p : Parsed). p .answer) (cut-region .stored-actions .ensures) ∙ region-answer _ in
-    let refusal = region-refused region call v b a i (sym (ap accepts region-is) ∙ sym (five .before .accepts4 .ensures) ∙ not-true _ (five .if5 .taken)) in
-    (region-is ∙ refusal .0, refusal .1)
+    let asked = c .before .before in
+    let cut = asked .before in
+    let four = cut .before .before in
+    let three = three-of four in
+    let two = two-of three in
+    let one = one-of two in
+    let start = start-1 one in
+    let refusal = region-refused (region-of start) (call-of start) (vault-is one) (before-sound two) (after-sound three) (read-sound four) (sym (ap accepts (region-is cut)) ∙ sym (asked .accepts4 .ensures) ∙ not-true _ (c .before .if5 .taken)) in
+    (region-is cut ∙ refusal .0, refusal .1)
 
 floored-difference-requires : tie.Need-floored-difference-requires
 floored-difference-requires c κs = search needs
@@ -147,30 +179,18 @@ returns-6 : tie.Need-returns-6
 returns-6 c =
     let judged = c .before .before in
     let five = judged .before .before .before in
-    let cut-region = five .before .before in
-    let four = cut-region .before .before in
-    let read = four .before .before in
-    let three = read .before in
-    let cut-after = three .before .before in
-    let two = cut-after .before in
-    let cut-before = two .before .before in
-    let start = cut-before .before .before .before .before .before .before .before in
-    let region = start .args .region .now in
-    let call : Call = callOf (start .args .before .now) (start .args .after .now) (start .args .instructions .now) (start .args .vault .now) (start .args .slot) (start .args .lamports-before) (start .args .lamports-after) (start .args .gross) in
-    let v : length (start .args .vault .now) ≡ 32 = omega arith in
-    let before-is = ap (λ (t : Table). t .answer) (cut-before .cut-table .ensures) ∙ table-answer _ in
-    let b = sym (ap accepts before-is) ∙ sym (two .before .accepts .ensures) ∙ not-false _ (two .if2 .left) in
-    let after-is = ap (λ (t : Table). t .answer) (cut-after .cut-table2 .ensures) ∙ table-answer _ in
-    let a = sym (ap accepts after-is) ∙ sym (three .before .accepts2 .ensures) ∙ not-false _ (three .if3 .left) in
-    let read-is = ap (λ (p : ReadList). p .answer) (read .parse-compact-instructions .ensures) ∙ read-answer _ in
-    let i = sym (ap accepts read-is) ∙ sym (four .before .accepts3 .ensures) ∙ not-false _ (four .if4 .left) in
-    let region-is = ap (λ (p : Parsed). p .answer) (cut-region .stored-actions .ensures) ∙ region-answer _ in
-    let r = sym (ap accepts region-is) ∙ sym (five .before .accepts4 .ensures) ∙ not-false _ (five .if5 .left) in
-    let programs = ap (λ (p : ReadList). programsIn (p .entries)) (read .parse-compact-instructions .ensures) ∙ programs-read _ in
-    let known = cut-before .before .before .before .before .before .before .slice-known .given in
-    let bytes : Bytes region = λ k. omega (arith, known k) in
-    judged-cut region call v b a i r bytes _ _ _ _ _ _ _ (cut-region .stored-actions .ensures)
-    (records-before call _ (cut-before .cut-table .ensures)) (records-after call _ (cut-after .cut-table2 .ensures)) programs
+    let four = four-of five in
+    let three = three-of four in
+    let two = two-of three in
+    let one = one-of two in
+    let start = start-1 one in
+    let call = call-of start in
+    let known = one .before .before .before .before .before .slice-known .given in
+    let bytes : Bytes (region-of start) = λ k. omega (arith, known k) in
+    let programs = ap (λ (p : ReadList). programsIn (p .entries)) (four .before .before .parse-compact-instructions .ensures) ∙ programs-read _ in
+    judged-cut (region-of start) call (vault-is one) (before-sound two) (after-sound three) (read-sound four) (region-sound five) bytes _ _ _ _ _ _ _
+    (five .before .before .stored-actions .ensures)
+    (records-before call _ (two .before .before .cut-table .ensures)) (records-after call _ (three .before .before .cut-table2 .ensures)) programs
     (judged .before .before .floored-difference .ensures ∙ decreased _ _ _ _ refl refl)
     (judged .judge-cut .ensures .0) (judged .judge-cut .ensures .1)
 
