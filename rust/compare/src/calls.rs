@@ -33,6 +33,41 @@ pub struct Call {
     pub gross: u64,
 }
 
+/// The most bytes that the tables and the instructions of a call may have
+/// together where a program reads it.
+const MAX_PARTS: usize = 60_000;
+
+impl Call {
+    fn parts(&self) -> [&[u8]; 3] {
+        [&self.before, &self.after, &self.instructions]
+    }
+
+    /// Whether a program reads the call.
+    pub fn is_readable(&self) -> bool {
+        self.parts().concat().len() <= MAX_PARTS
+    }
+
+    /// The bytes of the call in a replay's input.
+    pub fn encode(&self) -> Vec<u8> {
+        let mut bytes = Vec::new();
+        for number in [
+            self.slot,
+            self.lamports_before,
+            self.lamports_after,
+            self.gross,
+        ] {
+            bytes.extend(number.to_le_bytes());
+        }
+        let parts = self.parts();
+        for part in parts {
+            bytes.extend((part.len() as u32).to_le_bytes());
+        }
+        bytes.extend(self.vault);
+        bytes.extend(parts.concat());
+        bytes
+    }
+}
+
 /// A region and a call on it. One in ten is spoilt, and may then lie
 /// outside the domain of the published code.
 pub fn draw(chance: &mut Chance) -> (Vec<u8>, Call) {

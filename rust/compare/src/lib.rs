@@ -2,8 +2,9 @@
 //!
 //! Creation and judging are compared through [`subjects::Subject`] by
 //! [`runner::compare`]; they and the functions below them through the program
-//! `vectors`, which answers cases from its standard input ([`vectors`]). The
-//! cases are drawn from a seed.
+//! `vectors`, which answers cases from its standard input ([`vectors`]); runs of
+//! calls on one region through the program `replay` ([`replay`]). The cases are
+//! drawn from a seed.
 //!
 //! Where the published sources were not found the crate builds, and tests what
 //! it can; [`NOT_RUN`] is the line that says so.
@@ -16,8 +17,10 @@ pub mod chance;
 pub mod creation;
 pub mod damage;
 pub mod numbers;
+pub mod program;
 pub mod record;
 pub mod region;
+pub mod replay;
 pub mod report;
 pub mod runner;
 pub mod stream;

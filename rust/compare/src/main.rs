@@ -10,6 +10,7 @@ use std::{
 
 use compare::{
     record::Sample,
+    replay,
     report::Report,
     vectors::{self, answer, decode, Kind, KINDS},
     NOT_RUN,
@@ -26,6 +27,14 @@ compare run [--cases N] [--seed S] [--only KIND] [--vectors PATH]
     Draws N cases (1000) of each function from the seed S (1), or of the one
     that KIND names, and compares the answers. PATH is the program `vectors`, else THIMBLEFORD_VECTORS names it.
     Fails where an answer differs or a number is never reached.
+
+compare replay [--runs N] [--seed S] --program PATH
+    Draws N runs (100) of up to 200 calls on one region from the seed S (1) and
+    compares what the program `replay` at PATH prints.
+
+compare samples [--out DIR]
+    Writes the sample inputs of `replay` and what it has to print to DIR
+    (samples of the repository).
 
 compare record [--out DIR] [--check]
     Writes the recorded sample of `vectors` to DIR/stdin and DIR/stdout (DIR is
@@ -44,6 +53,14 @@ enum Task {
         seed: u64,
         kinds: Vec<Kind>,
         vectors: Option<PathBuf>,
+    },
+    Replay {
+        runs: u64,
+        seed: u64,
+        program: Option<PathBuf>,
+    },
+    Samples {
+        out: PathBuf,
     },
     Record {
         out: PathBuf,
@@ -84,6 +101,14 @@ fn parse(mut arguments: impl Iterator<Item = String>) -> Result<Option<Task>, St
             kinds: KINDS.to_vec(),
             vectors: env::var_os(VECTORS).map(PathBuf::from),
         },
+        "replay" => Task::Replay {
+            runs: 100,
+            seed: 1,
+            program: None,
+        },
+        "samples" => Task::Samples {
+            out: Path::new(env!("CARGO_MANIFEST_DIR")).join("../../samples"),
+        },
         "record" => Task::Record {
             out: Path::new(env!("CARGO_MANIFEST_DIR")).join("../../crates/vectors"),
             check: false,
@@ -101,6 +126,10 @@ fn parse(mut arguments: impl Iterator<Item = String>) -> Result<Option<Task>, St
             (Task::Run { seed, .. }, "--seed") => *seed = number(value()?)?,
             (Task::Run { kinds, .. }, "--only") => *kinds = vec![named(&value()?)?],
             (Task::Run { vectors, .. }, "--vectors") => *vectors = Some(value()?.into()),
+            (Task::Replay { runs, .. }, "--runs") => *runs = number(value()?)?,
+            (Task::Replay { seed, .. }, "--seed") => *seed = number(value()?)?,
+            (Task::Replay { program, .. }, "--program") => *program = Some(value()?.into()),
+            (Task::Samples { out }, "--out") => *out = value()?.into(),
             (Task::Record { out, .. }, "--out") => *out = value()?.into(),
             (Task::Record { check, .. }, "--check") => *check = true,
             _ => return Err(format!("{command} does not take {flag}")),
@@ -119,7 +148,7 @@ fn named(name: &str) -> Result<Kind, String> {
 fn perform(task: Task) -> Result<bool, Box<dyn Error>> {
     let Some(oracle) = Oracle::find() else {
         return match task {
-            Task::Run { .. } | Task::Record { check: true, .. } => {
+            Task::Run { .. } | Task::Replay { .. } | Task::Record { check: true, .. } => {
                 eprintln!("{NOT_RUN}");
                 Ok(true)
             }
@@ -134,6 +163,20 @@ fn perform(task: Task) -> Result<bool, Box<dyn Error>> {
             kinds,
             vectors,
         } => run(&oracle, cases, seed, &kinds, vectors),
+        Task::Replay {
+            runs,
+            seed,
+            program,
+        } => {
+            let program = program.ok_or("--program is missing")?;
+            let report = replay::compare(&oracle, &mut Command::new(program), seed, runs)?;
+            print!("{report}");
+            Ok(report.passed())
+        }
+        Task::Samples { out } => {
+            replay::write_samples(&oracle, &out)?;
+            Ok(true)
+        }
         Task::Record { out, check: false } => {
             Sample::draw(&oracle).write(&out)?;
             Ok(true)

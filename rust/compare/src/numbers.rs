@@ -30,6 +30,9 @@ pub const RESOLVING: [u32; 3] = [0, INVALID_INSTRUCTIONS, BAD_TABLE];
 /// The numbers of a judged call. The published code gives all but the last two.
 pub const JUDGING: [u32; 13] = [0, 3, 4, 5, 6, 7, 8, 9, 10, 11, 12, BAD_TABLE, BAD_REGION];
 
+/// The numbers of the calls of a run: its region and its tables are sound.
+pub const RUNNING: [u32; 11] = [0, 3, 4, 5, 6, 7, 8, 9, 10, 11, 12];
+
 /// Each number and its name.
 const NAMES: [(u32, &str); 17] = [
     (0, "0 accepted"),

@@ -10,10 +10,6 @@ use crate::{
     subjects::{Published, Subject},
 };
 
-/// The most bytes that the tables and the instructions of a call may have
-/// together: the program reads no more.
-const MAX_PARTS: usize = 60_000;
-
 /// The line of a judged call, and its sort.
 pub fn answer(oracle: &Oracle, payload: Cursor) -> Option<(String, &'static str)> {
     let (mut region, call) = decode(payload)?;
@@ -26,34 +22,15 @@ pub fn answer(oracle: &Oracle, payload: Cursor) -> Option<(String, &'static str)
 pub fn draw(chance: &mut Chance) -> Vec<u8> {
     loop {
         let (region, call) = calls::draw(chance);
-        if parts(&call).iter().map(|part| part.len()).sum::<usize>() <= MAX_PARTS {
+        if call.is_readable() {
             return encode(&region, &call);
         }
     }
 }
 
-fn parts(call: &Call) -> [&[u8]; 3] {
-    [&call.before, &call.after, &call.instructions]
-}
-
 fn encode(region: &[u8], call: &Call) -> Vec<u8> {
-    let mut bytes = (region.len() as u16).to_le_bytes().to_vec();
-    bytes.extend(region);
-    for number in [
-        call.slot,
-        call.lamports_before,
-        call.lamports_after,
-        call.gross,
-    ] {
-        bytes.extend(number.to_le_bytes());
-    }
-    let parts = parts(call);
-    for part in parts {
-        bytes.extend((part.len() as u32).to_le_bytes());
-    }
-    bytes.extend(call.vault);
-    bytes.extend(parts.concat());
-    bytes
+    let len = (region.len() as u16).to_le_bytes();
+    [&len[..], region, &call.encode()].concat()
 }
 
 fn decode(mut payload: Cursor) -> Option<(Vec<u8>, Call)> {

@@ -1,10 +1,6 @@
 //! Asking the program and holding its lines beside the expected ones.
 
-use std::{
-    io::{self, Write},
-    process::{Command, Stdio},
-    thread,
-};
+use std::{io, process::Command};
 
 use oracle::Oracle;
 
@@ -12,6 +8,7 @@ use super::{answer, draw, encode, Case, Kind};
 use crate::{
     bytes::hex,
     chance::Chance,
+    program,
     report::{Difference, Report},
 };
 
@@ -21,23 +18,8 @@ const BATCH: usize = 50_000;
 /// The lines that a program prints for the cases. One more says so where the
 /// program fails, and stands for the case at which it did.
 pub fn ask(program: &mut Command, cases: &[Case]) -> io::Result<Vec<String>> {
-    let mut child = program
-        .stdin(Stdio::piped())
-        .stdout(Stdio::piped())
-        .spawn()?;
-    let mut stdin = child.stdin.take().expect("standard input is piped");
-    let input = encode(cases);
-    // Written beside the reading: the program may print before it has read everything. One that
-    // stops reading early is judged by its lines.
-    let writer = thread::spawn(move || drop(stdin.write_all(&input)));
-    let output = child.wait_with_output()?;
-    writer.join().expect("the writer does not panic");
-    let text = String::from_utf8_lossy(&output.stdout);
-    let mut lines: Vec<String> = text.lines().map(str::to_string).collect();
-    if !output.status.success() {
-        lines.push(format!("ended with {}", output.status));
-    }
-    Ok(lines)
+    let text = program::output(program, encode(cases))?;
+    Ok(text.lines().map(str::to_string).collect())
 }
 
 /// Compares the program's lines with the expected ones, on so many cases of
