@@ -30,6 +30,17 @@ pub fn draw(chance: &mut Chance) -> Vec<u8> {
     bytes
 }
 
+/// Each breach alone, then each two together, and after those by chance.
+pub fn nth(chance: &mut Chance, number: u64) -> Vec<u8> {
+    let alone = BREACHES.iter().map(|breach| vec![*breach]);
+    let pairs = (0..BREACHES.len())
+        .flat_map(|last| (0..last).map(move |first| vec![BREACHES[first], BREACHES[last]]));
+    match alone.chain(pairs).nth(number as usize) {
+        Some(breaches) => region(chance, &breaches),
+        None => draw(chance),
+    }
+}
+
 /// A region that breaks the named rules and no other.
 pub fn region(chance: &mut Chance, breaches: &[Breach]) -> Vec<u8> {
     let mut actions = sound(chance);

@@ -16,6 +16,33 @@ pub struct Entry {
     pub data: Vec<u8>,
 }
 
+/// Each prefix of a stream of two entries, then the counts at and past the
+/// limit, and after those by chance.
+pub fn nth(chance: &mut Chance, number: u64) -> Vec<u8> {
+    let entry = |accounts: Vec<u8>, data: Vec<u8>| Entry {
+        program: 7,
+        accounts,
+        data,
+    };
+    let number = number as usize;
+    let two = encode(&[
+        entry(vec![1, 2, 3], vec![9; 20]),
+        entry(vec![4; 5], vec![8; 11]),
+    ]);
+    if number <= two.len() {
+        return two[..number].to_vec();
+    }
+    match number - two.len() {
+        1 => encode(&vec![entry(vec![], vec![]); 15]),
+        2 => encode(&vec![entry(vec![5], vec![6]); 16]),
+        3 => encode(&vec![entry(vec![], vec![]); 17]),
+        4 => encode(&vec![entry(vec![], vec![]); 255]),
+        5 => encode(&[entry(vec![3; 255], vec![])]),
+        6 => encode(&[entry(vec![], vec![2; 65_535])]),
+        _ => draw(chance),
+    }
+}
+
 impl Entry {
     /// An entry of the given program, the rest of it by chance.
     pub fn draw(chance: &mut Chance, program: u8) -> Self {
