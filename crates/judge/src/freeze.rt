@@ -6,6 +6,7 @@ use account::fields::record_key;
 use account::fields::record_payload;
 use account::tokens::is_counted;
 use account::tokens::is_token_account;
+use account::tokens::mint_of;
 use key::KEY_LENGTH;
 use key::Keys;
 ghost use mathlib.Core.Path.{_≡_};
@@ -105,10 +106,10 @@ fn keeps_freeze(
     if !is_counted(before, view, vault) {
         return true;
     }
-    let payload = record_payload(before, view);
-    if !mints.holds(part_of(payload, 0, KEY_LENGTH)) {
+    if !mints.holds(mint_of(before, view)) {
         return true;
     }
+    let payload = record_payload(before, view);
     still_there(payload, record_key(before, view), after, cut)
 }
 

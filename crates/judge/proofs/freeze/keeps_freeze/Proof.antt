@@ -4,7 +4,6 @@ use mathlib.Core.Path.{_≡_, refl, sym, ap, _∙_}
 use borrow.Author.Tests.{not-true, not-false}
 use Prim.Native.Nat.{ℕ}
 use mathlib.Core.List.{List}
-use lib.ListN.{take}
 use Rattle.key.specs.Key.{isAmong, keysIn}
 use Rattle.judge.proofs.Freezing.{not-counted-frozen, not-listed-frozen, listed-frozen}
 use borrow.Author.Needs.{needs}
@@ -17,25 +16,22 @@ is-counted-requires c κs = search needs
 returns : tie.Need-returns
 returns c = sym (not-counted-frozen _ _ _ _ (sym (c .before .is-counted .ensures) ∙ not-true _ (c .if1 .taken)))
 
-record-payload-requires : tie.Need-record-payload-requires
-record-payload-requires c κs = search needs
-
-part-of-requires : tie.Need-part-of-requires
-part-of-requires c κs = search needs
+mint-of-requires : tie.Need-mint-of-requires
+mint-of-requires c κs = search needs
 
 holds-requires : tie.Need-holds-requires
 holds-requires c κs = search needs
 
 returns-2 : tie.Need-returns-2
 returns-2 c =
-    let first = c .before .before .before .before in
-    let mint = c .before .before .part-of in
-    let payload = c .before .before .before .record-payload in
+    let first = c .before .before .before in
     let mints = first .before .before .before .before .before .args .mints in
     sym
     (not-listed-frozen _ _ _ _ (sym (first .before .is-counted .ensures) ∙ not-false _ (first .if1 .left))
-    (ap (λ (p : List ℕ). isAmong (take 32 p) (keysIn mints)) (sym (payload .ensures)) ∙ ap (λ (m : List ℕ). isAmong m (keysIn mints)) (sym (mint .ensures)) ∙ sym (c .before .holds .ensures)
-    ∙ not-true _ (c .if2 .taken)))
+    (ap (λ (m : List ℕ). isAmong m (keysIn mints)) (sym (c .before .before .mint-of .ensures)) ∙ sym (c .before .holds .ensures) ∙ not-true _ (c .if2 .taken)))
+
+record-payload-requires : tie.Need-record-payload-requires
+record-payload-requires c κs = search needs
 
 record-key-requires : tie.Need-record-key-requires
 record-key-requires c κs = search needs
@@ -45,17 +41,14 @@ still-there-requires c κs = search needs
 
 returns-3 : tie.Need-returns-3
 returns-3 c =
-    let second = c .before .before in
-    let first = second .before .before .before .before in
-    let mint = second .before .before .part-of in
-    let payload = second .before .before .before .record-payload in
+    let second = c .before .before .before in
+    let first = second .before .before .before in
     let mints = first .before .before .before .before .before .args .mints in
     c .still-there .ensures
-    ∙ rw (payload .ensures, c .before .record-key .ensures)
+    ∙ rw (c .before .before .record-payload .ensures, c .before .record-key .ensures)
     (sym
     (listed-frozen _ _ _ _ (sym (first .before .is-counted .ensures) ∙ not-false _ (first .if1 .left))
-    (ap (λ (p : List ℕ). isAmong (take 32 p) (keysIn mints)) (sym (payload .ensures)) ∙ ap (λ (m : List ℕ). isAmong m (keysIn mints)) (sym (mint .ensures)) ∙ sym (second .before .holds .ensures)
-    ∙ not-false _ (second .if2 .left))))
+    (ap (λ (m : List ℕ). isAmong m (keysIn mints)) (sym (second .before .before .mint-of .ensures)) ∙ sym (second .before .holds .ensures) ∙ not-false _ (second .if2 .left))))
 
 pub keeps-freeze-spec : {M : Type 1} → statement M
 keeps-freeze-spec =
@@ -63,10 +56,10 @@ keeps-freeze-spec =
     (tie.spec
     is-counted-requires
     returns
-    record-payload-requires
-    part-of-requires
+    mint-of-requires
     holds-requires
     returns-2
+    record-payload-requires
     record-key-requires
     still-there-requires
     returns-3)
