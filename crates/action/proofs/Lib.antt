@@ -1,3 +1,4 @@
+pub mod Changing
 pub mod Cuts
 pub mod Cutting
 pub mod Forms

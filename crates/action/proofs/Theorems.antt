@@ -1,25 +1,28 @@
 -- What is promised of regions beyond each function's contract.
 -- Assumes nothing.
-use mathlib.Core.Path.{_≡_, refl, sym, ap, subst, _∙_}
+use mathlib.Core.Path.{_≡_, refl, sym, ap, ap₂, subst, _∙_}
 use mathlib.Core.Bool.{Bool, true, false, not, _&&_, _||_, and-eq-true-iff}
-use mathlib.Core.List.{List, [], _∷_}
+use mathlib.Core.List.{List, [], _∷_, map}
 use Prim.Native.Nat.{ℕ, _*_, _<_, _≤_}
 use native.Mathlib.Omega.{arith}
-use borrow.Author.Tests.{ne-eqb}
+use borrow.Author.Tests.{ne-eqb, eqb-true}
 use lib.Dec.{eqb, ltb, lit<}
 use lib.ListN.{length}
 use Rattle.answer.specs.declared.Answer.{Answer}
 use Rattle.answer.specs.Numbers.{answer, accepted, accepts, badRegion, actionBufferInvalid, actionWhitelistBlacklistConflict}
 use Rattle.answer.specs.Refusable.{Refusable, given, refused}
+use Rattle.key.specs.Key.{sameKey}
 use Rattle.number.specs.Number.{Bytes}
+use Rattle.action.specs.declared.Change.{Change}
 use Rattle.action.specs.declared.Rule.{Rule}
 use Rattle.action.specs.declared.Rule.the-variants.{Length, Fresh, Windowed}
 use Rattle.action.specs.Region.{Action, cut, glue, mostActions}
-use Rattle.action.specs.Fields.{isRecurring, amountsOf, spent, window, lastReset}
-use Rattle.action.specs.Creation.{keeps, allKeep, kindsOf, bothLists, solRepeats, mintRepeats, formOf, creation, inStoredForm, storedActions}
+use Rattle.action.specs.Fields.{isToken, isRecurring, keyOf, amountsOf, spent, window, lastReset, changed}
+use Rattle.action.specs.Creation.{keeps, allKeep, kindsOf, bothLists, solRepeats, mintAgain, mintRepeats, formOf, creation, inStoredForm, storedActions}
+use Rattle.action.proofs.Changing.{Regular, AllRegular, changed-kind, changed-length, changed-key, changed-regular, mint-there, window-kept, regular-fit, cut-regular}
 use Rattle.action.proofs.Cuts.{cut-cuts, cut-refuses, cut-at-most}
 use Rattle.action.proofs.Forms.{form-length, form-conflict, form-sol, form-mint, form-ending, form-kept}
-use Rattle.action.proofs.Gluing.{glue-cut, region-at-most}
+use Rattle.action.proofs.Gluing.{glue-cut, cut-glue, region-at-most}
 
 -- what actions in form keep
 pub record Formed (ending : Rule) (l : List Action) : Type 0 where
@@ -163,3 +166,87 @@ stored-at-most-1200 s l e = let (is, form) = stored-is-formed s l e in region-at
 -- a region in stored form is its actions, glued
 pub stored-is-glued : (s : List ℕ) (l : List Action) → Bytes s → storedActions s ≡ given l → glue l ≡ s
 stored-is-glued s l bytes e = let (is, form) = stored-is-formed s l e in glue-cut (cut-cuts mostActions s l is) bytes
+
+-- ---- changing the amounts of actions keeps them in form
+
+-- what changes do to each of some actions
+module _ (f : Action → Change) where
+  abbrev eachChanged : List Action → List Action
+  eachChanged l = map (λ (a : Action). changed (f a) a) l
+
+  kinds-kept : (l : List Action) → kindsOf (eachChanged l) ≡ kindsOf l
+  kinds-kept [] = refl
+  kinds-kept (a ∷ l) = ap₂ (λ (k : ℕ) (ks : List ℕ). k ∷ ks) (changed-kind (f a) a) (kinds-kept l)
+
+  keeps-length : (a : Action) → keeps Length (changed (f a) a) ≡ keeps Length a
+  unfolding keeps
+  keeps-length a = rw (changed-length (f a) a, changed-kind (f a) a)
+
+  keeps-window : (a : Action) → Regular a → keeps Windowed (changed (f a) a) ≡ keeps Windowed a
+  unfolding keeps
+  keeps-window a r =
+      ap (λ (k : ℕ). not (isRecurring k) || ltb 0 (window (amountsOf (changed (f a) a)))) (changed-kind (f a) a) ∙ go (isRecurring (a .kind)) refl
+    where
+      go : (t : Bool) → isRecurring (a .kind) ≡ t → (not t || ltb 0 (window (amountsOf (changed (f a) a)))) ≡ (not t || ltb 0 (window (amountsOf a)))
+      go true e = ap (ltb 0) (window-kept r e (f a))
+      go false e = refl
+
+  all-keep : (rule : Rule) → ((a : Action) → Regular a → keeps rule (changed (f a) a) ≡ keeps rule a)
+      → (l : List Action) → AllRegular l → allKeep rule (eachChanged l) ≡ allKeep rule l
+  unfolding allKeep
+  all-keep rule same [] rs = refl
+  all-keep rule same (a ∷ l) rs = ap₂ (λ (p q : Bool). p && q) (same a (rs .0)) (all-keep rule same l (rs .1))
+
+  same-mint : (a b : Action) → Regular a → Regular b → isToken (a .kind) ≡ true
+      → (eqb (changed (f b) b .kind) (changed (f a) a .kind) && sameKey (keyOf (changed (f b) b)) (keyOf (changed (f a) a)))
+      ≡ (eqb (b .kind) (a .kind) && sameKey (keyOf b) (keyOf a))
+  same-mint a b ra rb token =
+      ap₂ (λ (x y : ℕ). eqb x y && sameKey (keyOf (changed (f b) b)) (keyOf (changed (f a) a))) (changed-kind (f b) b) (changed-kind (f a) a)
+      ∙ ap (λ (k : List ℕ). eqb (b .kind) (a .kind) && sameKey (keyOf (changed (f b) b)) k) (changed-key (f a) a (mint-there ra) token)
+      ∙ go (eqb (b .kind) (a .kind)) refl
+    where
+      go : (t : Bool) → eqb (b .kind) (a .kind) ≡ t → (t && sameKey (keyOf (changed (f b) b)) (keyOf a)) ≡ (t && sameKey (keyOf b) (keyOf a))
+      go true e = ap (λ (k : List ℕ). sameKey k (keyOf a)) (changed-key (f b) b (mint-there rb) (ap isToken (eqb-true _ _ e) ∙ token))
+      go false e = refl
+
+  mint-again-kept : (a : Action) → Regular a → isToken (a .kind) ≡ true → (l : List Action) → AllRegular l
+      → mintAgain (changed (f a) a) (eachChanged l) ≡ mintAgain a l
+  unfolding mintAgain
+  mint-again-kept a ra token [] rs = refl
+  mint-again-kept a ra token (b ∷ l) rs = ap₂ (λ (p q : Bool). p || q) (same-mint a b ra (rs .0) token) (mint-again-kept a ra token l (rs .1))
+
+  mint-repeats-kept : (l : List Action) → AllRegular l → mintRepeats (eachChanged l) ≡ mintRepeats l
+  unfolding mintRepeats
+  mint-repeats-kept [] rs = refl
+  mint-repeats-kept (a ∷ l) rs =
+      ap₂ (λ (p q : Bool). p || q)
+      (ap (λ (k : ℕ). isToken k && mintAgain (changed (f a) a) (eachChanged l)) (changed-kind (f a) a) ∙ go (isToken (a .kind)) refl)
+      (mint-repeats-kept l (rs .1))
+    where
+      go : (t : Bool) → isToken (a .kind) ≡ t → (t && mintAgain (changed (f a) a) (eachChanged l)) ≡ (t && mintAgain a l)
+      go true e = mint-again-kept a (rs .0) e l (rs .1)
+      go false e = refl
+
+  pub formed-changed : (l : List Action) → AllRegular l → Formed Windowed l → Formed Windowed (eachChanged l)
+  formed-changed l rs form = record {
+    lengths = all-keep Length (λ a r. keeps-length a) l rs ∙ form .lengths;
+    one-kind-of-list = ap bothLists (kinds-kept l) ∙ form .one-kind-of-list;
+    one-of-each-sol-type = ap solRepeats (kinds-kept l) ∙ form .one-of-each-sol-type;
+    one-of-each-token-type-for-a-mint = mint-repeats-kept l rs ∙ form .one-of-each-token-type-for-a-mint;
+    ended = all-keep Windowed keeps-window l rs ∙ form .ended;
+  }
+
+  pub regular-changed : (l : List Action) → AllRegular l → AllRegular (eachChanged l)
+  regular-changed [] rs = tt
+  regular-changed (a ∷ l) rs = (changed-regular (rs .0) (f a), regular-changed l (rs .1))
+
+-- regular actions in form, at most 16, are those of the region that they glue to
+pub glued-is-stored : (l : List Action) → AllRegular l → Formed Windowed l → length l ≤ 16 → storedActions (glue l) ≡ given l
+glued-is-stored l rs form few = stored-given (glue l) (cut-glue mostActions (regular-fit l rs) few) (formed-stored l form)
+
+-- the actions of a region of bytes in stored form are regular, and at most 16
+pub stored-is-regular : (s : List ℕ) (l : List Action) → Bytes s → storedActions s ≡ given l → AllRegular l × (length l ≤ 16)
+stored-is-regular s l bytes e =
+    let (is, form) = stored-is-formed s l e in
+    let cuts = cut-cuts mostActions s l is in
+    (cut-regular cuts bytes (form .lengths), cut-at-most cuts)

@@ -5,43 +5,18 @@ use mathlib.Core.Bool.{Bool, true, false}
 use mathlib.Core.List.{List, [], _∷_, _++_, map, append-assoc, append-nil}
 use Prim.Native.Nat.{ℕ, zero, suc, _+_, _-_, _<_, _≤_, min}
 use native.Mathlib.Omega.{arith}
-use lib.ListN.{length, take, drop, replicate, length-append, length-take, length-drop}
+use lib.ListN.{length, take, drop, replicate, length-append}
 use lib.Seq.{take-at}
 use Rattle.answer.specs.Refusable.{Refusable, given, refused}
-use Rattle.number.proofs.Laws.{length-with-number}
 use Rattle.action.specs.declared.ActionView.{ActionView}
-use Rattle.action.specs.declared.Change.{Change}
-use Rattle.action.specs.declared.Change.the-variants.{Nothing, Remaining, Spent}
 use Rattle.action.specs.Region.{Action, glueOne, glue}
-use Rattle.action.specs.Fields.{mintLength, amountsOf, withAmounts, changedAmounts, changed}
 use Rattle.action.specs.Views.{actionAt, viewAt, placed, viewsIn, parsedOf, writtenAt, zeroView}
+use Rattle.action.proofs.Changing.{changed-kind, changed-expires, changed-length}
 use Rattle.action.proofs.Gluing.{glue-append, length-glueOne, glued-action, glued-written}
 use Rattle.action.proofs.Parsing.{length-placed}
 use Rattle.limit.specs.declared.Amounts.{Amounts}
 use Rattle.limit.specs.Limit.{Charge, changeOf, settled}
 use Rattle.limit.specs.Views.{charges, settledViews, settledAt}
-
-length-changed-amounts : (change : Change) (amounts : List ℕ) → length (changedAmounts change amounts) ≡ length amounts
-length-changed-amounts Nothing amounts = refl
-length-changed-amounts (Remaining n) amounts = length-with-number 8 amounts 0 n
-length-changed-amounts (Spent x y) amounts = length-with-number 8 _ 24 y ∙ length-with-number 8 amounts 8 x
-
--- a change keeps the type, the expiry and the data's length
-module _ (change : Change) (a : Action) where
-  pub changed-kind : (changed change a) .kind ≡ a .kind
-  unfolding changed withAmounts
-  changed-kind = refl
-
-  pub changed-expires : (changed change a) .expires ≡ a .expires
-  unfolding changed withAmounts
-  changed-expires = refl
-
-  pub changed-length : length ((changed change a) .payload) ≡ length (a .payload)
-  unfolding changed withAmounts amountsOf
-  changed-length =
-      length-append (take (mintLength (a .kind)) (a .payload)) _
-      ∙ ap (λ (n : ℕ). length (take (mintLength (a .kind)) (a .payload)) + n) (length-changed-amounts change _)
-      ∙ rw (length-take (mintLength (a .kind)) (a .payload), length-drop (mintLength (a .kind)) (a .payload)) (omega arith)
 
 module _ (slot : ℕ) (c : Charge) where
   pub settled-kind : (settled slot c) .kind ≡ c .act .kind

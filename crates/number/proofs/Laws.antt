@@ -1,16 +1,16 @@
 -- The laws of little-endian numbers, each over the width: a number is its halves, a number written is a run of stores, and what is
 -- written is read back.
 -- Assumes nothing.
-use mathlib.Core.Path.{_≡_, refl, sym, ap, _∙_}
+use mathlib.Core.Path.{_≡_, refl, sym, ap, subst, _∙_}
 use mathlib.Core.Bool.{Bool, true, false, cond}
-use mathlib.Core.List.{List, [], _∷_, _++_}
-use Prim.Native.Nat.{ℕ, zero, suc, _+_, _*_, _/_, _%_, _^_, _<_, _≤_}
+use mathlib.Core.List.{List, [], _∷_, _++_, append-assoc}
+use Prim.Native.Nat.{ℕ, zero, suc, _+_, _-_, _*_, _/_, _%_, _^_, _<_, _≤_}
 use native.Mathlib.Nat.{pow-suc}
 use native.Mathlib.Omega.{arith}
 use borrow.Author.Tests.{le-leb, lt-leb, leb-true}
 use lib.Dec.{leb}
-use lib.ListN.{length, getD, take, drop, length-append, length-drop, length-take}
-use lib.Seq.{getD-drop, take-add, drop-drop, drop-cons, length-take-le, sets, sets-eq}
+use lib.ListN.{length, getD, take, drop, length-append, length-drop, length-take, take-append-drop}
+use lib.Seq.{getD-drop, take-add, take-at, take-append-le, drop-at, drop-append-le, drop-drop, drop-cons, length-take-le, sets, sets-eq}
 use Rattle.number.specs.Number.{number, bytesOf, numberAt, withNumberAt, Bytes}
 
 pub length-bytesOf : (width n : ℕ) → length (bytesOf width n) ≡ width
@@ -111,3 +111,90 @@ length-with-number width s at n = go (leb (at + width) (length s)) refl
         let fits : at + width ≤ length s = leb-true _ _ e in
         simp (length-append, length-bytesOf, length-drop, length-take) (omega arith)
     go false e = refl
+
+-- ---- what is read after a number was written
+
+module _ (width : ℕ) (s : List ℕ) (at n : ℕ) (fits : at + width ≤ length s) where
+  front : length (take at s) ≡ at
+  front = length-take-le at s (omega arith)
+
+  in-parts : withNumberAt width s at n ≡ take at s ++ (bytesOf width n ++ drop (at + width) s)
+  unfolding withNumberAt
+  in-parts = rw (le-leb _ _ fits) (append-assoc (take at s) (bytesOf width n) (drop (at + width) s))
+
+  from-there : drop at (withNumberAt width s at n) ≡ bytesOf width n ++ drop (at + width) s
+  from-there = ap (drop at) in-parts ∙ drop-at (take at s) _ at front
+
+  after-it : drop (at + width) (withNumberAt width s at n) ≡ drop (at + width) s
+  after-it =
+      sym (drop-drop width at (withNumberAt width s at n))
+      ∙ ap (drop width) from-there ∙ drop-at (bytesOf width n) (drop (at + width) s) width (length-bytesOf width n)
+
+  -- what was written is read back, where its bytes hold it
+  pub read-back : n < 256 ^ width → numberAt width (withNumberAt width s at n) at ≡ n
+  read-back small =
+      number-there width (withNumberAt width s at n) at (rw (length-with-number width s at n) fits)
+      ∙ ap (λ (x : List ℕ). number (take width x)) from-there
+      ∙ ap number (take-at (bytesOf width n) (drop (at + width) s) width (length-bytesOf width n))
+      ∙ number-bytesOf width n small
+
+  -- a part that ends before the place, whatever follows there
+  part-before : (from : ℕ) (rest : List ℕ) → from + width ≤ at → take width (drop from (take at s ++ rest)) ≡ take width (drop from (take at s))
+  part-before from rest h =
+      ap (take width) (drop-append-le from (take at s) rest (rw front (omega arith)))
+      ∙ take-append-le width (drop from (take at s)) rest (rw (length-drop from (take at s), front) (omega arith))
+
+  before-it : (from : ℕ) → from + width ≤ at → take width (drop from (withNumberAt width s at n)) ≡ take width (drop from s)
+  before-it from h =
+      ap (λ (x : List ℕ). take width (drop from x)) in-parts ∙ part-before from _ h
+      ∙ sym (part-before from (drop at s) h) ∙ ap (λ (x : List ℕ). take width (drop from x)) (take-append-drop at s)
+
+-- a number that ends before the written one stays
+pub read-before : (width : ℕ) (s : List ℕ) (at n from : ℕ) → from + width ≤ at → at + width ≤ length s
+    → numberAt width (withNumberAt width s at n) from ≡ numberAt width s from
+read-before width s at n from h fits =
+    number-there width (withNumberAt width s at n) from (rw (length-with-number width s at n) (omega arith))
+    ∙ ap number (before-it width s at n fits from h)
+    ∙ sym (number-there width s from (omega arith))
+
+-- and so does one that begins after it
+pub read-after : (width : ℕ) (s : List ℕ) (at n from : ℕ) → at + width ≤ from → at + width ≤ length s
+    → numberAt width (withNumberAt width s at n) from ≡ numberAt width s from
+unfolding numberAt
+read-after width s at n from h fits =
+    let past : at + width + (from - (at + width)) ≡ from = omega arith in
+    let same : drop from (withNumberAt width s at n) ≡ drop from s =
+    ap (λ (k : ℕ). drop k (withNumberAt width s at n)) (sym past)
+    ∙ sym (drop-drop (from - (at + width)) (at + width) (withNumberAt width s at n))
+    ∙ ap (drop (from - (at + width))) (after-it width s at n fits)
+    ∙ drop-drop (from - (at + width)) (at + width) s ∙ ap (λ (k : ℕ). drop k s) past in
+    rw (length-with-number width s at n, same)
+
+-- a number read from bytes is below what they can hold
+pub read-below : (width : ℕ) (s : List ℕ) (at : ℕ) → Bytes s → numberAt width s at < 256 ^ width
+unfolding numberAt
+read-below width s at bytes = go (leb (at + width) (length s)) refl
+  where
+    go : (t : Bool) → leb (at + width) (length s) ≡ t → cond t (number (take width (drop at s))) 0 < 256 ^ width
+    go true e =
+        let part = take width (drop at s) in
+        let fits : at + width ≤ length s = leb-true _ _ e in
+        let long : length part ≡ width = length-take-le width (drop at s) (rw (length-drop at s) (omega arith)) in
+        subst (λ (w : ℕ). number part < 256 ^ w) long (number-below part (bytes-take width (drop at s) (bytes-drop at s bytes)))
+    go false e =
+        let some : number (bytesOf width 0) < 256 ^ width = rw (length-bytesOf width 0) at (number-below (bytesOf width 0) (bytesOf-bytes width 0)) in
+        omega arith
+
+-- writing a number keeps bytes bytes
+pub bytes-with-number : (width : ℕ) (s : List ℕ) (at n : ℕ) → Bytes s → Bytes (withNumberAt width s at n)
+unfolding withNumberAt
+bytes-with-number width s at n bytes = go (leb (at + width) (length s))
+  where
+    whole : Bytes (take at s ++ bytesOf width n ++ drop (at + width) s)
+    whole =
+        bytes-append (take at s ++ bytesOf width n) (drop (at + width) s)
+        (bytes-append (take at s) (bytesOf width n) (bytes-take at s bytes) (bytesOf-bytes width n)) (bytes-drop (at + width) s bytes)
+
+    go : (t : Bool) → Bytes (cond t (take at s ++ bytesOf width n ++ drop (at + width) s) s)
+    go true = whole
+    go false = bytes

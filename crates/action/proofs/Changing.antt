@@ -1,0 +1,171 @@
+-- What a change of an action's amounts keeps: the type, the expiry, the data's length, the mint; and that they stay bytes.
+-- Assumes nothing.
+use mathlib.Core.Path.{_≡_, refl, sym, ap, subst, _∙_}
+use mathlib.Core.Bool.{Bool, true, false, cond, _&&_, and-eq-true-iff}
+use mathlib.Core.List.{List, [], _∷_, _++_}
+use Prim.Native.Nat.{ℕ, _+_, _-_, _^_, _<_, _≤_}
+use native.Mathlib.Omega.{arith}
+use borrow.Author.Tests.{eqb-true, leb-true}
+use lib.Dec.{eqb, leb, lit≤}
+use lib.ListN.{length, take, drop, length-append, length-take, length-drop}
+use lib.Seq.{take-at, drop-at, length-take-le}
+use Rattle.number.specs.Number.{number, withNumberAt, Bytes}
+use Rattle.number.proofs.Laws.{number-below, read-before, read-after, length-with-number, bytes-take, bytes-drop, bytes-append, bytes-with-number}
+use Rattle.action.specs.declared.Change.{Change}
+use Rattle.action.specs.declared.Change.the-variants.{Nothing, Remaining, Spent}
+use Rattle.action.specs.declared.Rule.the-variants.{Length}
+use Rattle.action.specs.Region.{Action, Typed, types, sizeAmong, dataLength}
+use Rattle.action.specs.Fields.{isToken, isRecurring, keyOf, mintLength, amountsOf, withAmounts, window, changedAmounts, changed}
+use Rattle.action.specs.Creation.{keeps, allKeep}
+use Rattle.action.proofs.Cutting.{IsFirst}
+use Rattle.action.proofs.Cuts.{Cuts, none, more}
+use Rattle.action.proofs.Gluing.{Fits, AllFit, no-more, one-more, data-at-most}
+
+length-changed-amounts : (change : Change) (amounts : List ℕ) → length (changedAmounts change amounts) ≡ length amounts
+length-changed-amounts Nothing amounts = refl
+length-changed-amounts (Remaining n) amounts = length-with-number 8 amounts 0 n
+length-changed-amounts (Spent x y) amounts = length-with-number 8 _ 24 y ∙ length-with-number 8 amounts 8 x
+
+bytes-changed-amounts : (change : Change) (amounts : List ℕ) → Bytes amounts → Bytes (changedAmounts change amounts)
+bytes-changed-amounts Nothing amounts h = h
+bytes-changed-amounts (Remaining n) amounts h = bytes-with-number 8 amounts 0 n h
+bytes-changed-amounts (Spent x y) amounts h = bytes-with-number 8 _ 24 y (bytes-with-number 8 amounts 8 x h)
+
+module _ (change : Change) (a : Action) where
+  pub changed-kind : (changed change a) .kind ≡ a .kind
+  unfolding changed withAmounts
+  changed-kind = refl
+
+  pub changed-expires : (changed change a) .expires ≡ a .expires
+  unfolding changed withAmounts
+  changed-expires = refl
+
+  pub changed-length : length ((changed change a) .payload) ≡ length (a .payload)
+  unfolding changed withAmounts amountsOf
+  changed-length =
+      length-append (take (mintLength (a .kind)) (a .payload)) _
+      ∙ ap (λ (n : ℕ). length (take (mintLength (a .kind)) (a .payload)) + n) (length-changed-amounts change _)
+      ∙ rw (length-take (mintLength (a .kind)) (a .payload), length-drop (mintLength (a .kind)) (a .payload)) (omega arith)
+
+  pub changed-bytes : Bytes (a .payload) → Bytes ((changed change a) .payload)
+  unfolding changed withAmounts amountsOf
+  changed-bytes h =
+      bytes-append (take (mintLength (a .kind)) (a .payload)) (changedAmounts change (drop (mintLength (a .kind)) (a .payload)))
+      (bytes-take (mintLength (a .kind)) (a .payload) h)
+      (bytes-changed-amounts change (drop (mintLength (a .kind)) (a .payload)) (bytes-drop (mintLength (a .kind)) (a .payload) h))
+
+  module _ (there : mintLength (a .kind) ≤ length (a .payload)) where
+    pub changed-amounts : amountsOf (changed change a) ≡ changedAmounts change (amountsOf a)
+    unfolding changed withAmounts amountsOf
+    changed-amounts = drop-at (take (mintLength (a .kind)) (a .payload)) _ (mintLength (a .kind)) (length-take-le _ (a .payload) there)
+
+    pub changed-mint : take (mintLength (a .kind)) ((changed change a) .payload) ≡ take (mintLength (a .kind)) (a .payload)
+    unfolding changed withAmounts
+    changed-mint = take-at (take (mintLength (a .kind)) (a .payload)) _ (mintLength (a .kind)) (length-take-le _ (a .payload) there)
+
+    pub changed-key : isToken (a .kind) ≡ true → keyOf (changed change a) ≡ keyOf a
+    unfolding keyOf
+    changed-key t =
+        let long : mintLength (a .kind) ≡ 32 = rw t in
+        subst (λ (n : ℕ). take n ((changed change a) .payload) ≡ take n (a .payload)) long changed-mint
+
+-- ---- actions as regions have them
+
+-- the least data of a type: a mint where it has one, then one number or the four of a window
+abbrev pub least : ℕ → ℕ
+least code = mintLength code + cond (isRecurring code) 32 8
+
+-- no listed length is below: one test over the whole list
+abbrev noneBelow : List Typed → Bool
+noneBelow [] = true
+noneBelow (t ∷ ts) = leb (least (t .code)) (t .size) && noneBelow ts
+
+least-among : (code : ℕ) (ts : List Typed) → noneBelow ts ≡ true → 0 < sizeAmong code ts → least code ≤ sizeAmong code ts
+unfolding sizeAmong
+least-among code [] e some = absurd (let z : _≡_ {A = ℕ} 0 1 = omega arith in omega arith)
+least-among code (t ∷ ts) e some =
+    let (here, after) = and-eq-true-iff (leb (least (t .code)) (t .size)) _ .0 e in
+    go (leb-true _ _ here) (least-among code ts after) (eqb code (t .code)) refl some
+  where
+    go : least (t .code) ≤ t .size → (0 < sizeAmong code ts → least code ≤ sizeAmong code ts) → (is : Bool) → eqb code (t .code) ≡ is
+        → 0 < cond is (t .size) (sizeAmong code ts) → least code ≤ cond is (t .size) (sizeAmong code ts)
+    go here after true same h = subst (λ (c : ℕ). least c ≤ t .size) (sym (eqb-true code (t .code) same)) here
+    go here after false other h = after h
+
+least-listed : (code : ℕ) → 0 < dataLength code → least code ≤ dataLength code
+unfolding dataLength isToken isRecurring
+least-listed code some = least-among code types refl some
+
+-- an action as a region has it: a known type, an expiry that fits, the listed length, bytes
+pub record Regular (a : Action) : Type 0 where
+  pub known : 0 < dataLength (a .kind)
+  pub soon : a .expires < 256 ^ 8
+  pub sized : length (a .payload) ≡ dataLength (a .kind)
+  pub bytes : Bytes (a .payload)
+
+abbrev pub AllRegular : List Action → Type 0
+AllRegular [] = Unit {0}
+AllRegular (a ∷ l) = Regular a × AllRegular l
+
+module _ {a : Action} (r : Regular a) where
+  enough : least (a .kind) ≤ length (a .payload)
+  enough = rw (r .sized) (least-listed (a .kind) (r .known))
+
+  pub mint-there : mintLength (a .kind) ≤ length (a .payload)
+  mint-there = omega (arith, enough)
+
+  pub amounts-there : cond (isRecurring (a .kind)) 32 8 ≤ length (amountsOf a)
+  unfolding amountsOf
+  amounts-there = rw (length-drop (mintLength (a .kind)) (a .payload)) (omega (arith, enough))
+
+  pub amounts-are-bytes : Bytes (amountsOf a)
+  unfolding amountsOf
+  amounts-are-bytes = bytes-drop (mintLength (a .kind)) (a .payload) (r .bytes)
+
+  pub changed-regular : (change : Change) → Regular (changed change a)
+  changed-regular change =
+      record {
+        known = rw (changed-kind change a) (r .known);
+        soon = rw (changed-expires change a) (r .soon);
+        sized = changed-length change a ∙ r .sized ∙ ap dataLength (sym (changed-kind change a));
+        bytes = changed-bytes change a (r .bytes);
+      }
+
+  -- no change writes a window's length
+  pub window-kept : isRecurring (a .kind) ≡ true → (change : Change) → window (amountsOf (changed change a)) ≡ window (amountsOf a)
+  window-kept e change = ap window (changed-amounts change a mint-there) ∙ go change
+    where
+      room : 32 ≤ length (amountsOf a)
+      room = rw e at amounts-there
+
+      go : (c : Change) → window (changedAmounts c (amountsOf a)) ≡ window (amountsOf a)
+      go Nothing = refl
+      go (Remaining n) = read-after 8 (amountsOf a) 0 n 16 (lit≤ tt) (omega (arith, room))
+      go (Spent x y) =
+          read-before 8 (withNumberAt 8 (amountsOf a) 8 x) 24 y 16 (lit≤ tt) (rw (length-with-number 8 (amountsOf a) 8 x) room)
+          ∙ read-after 8 (amountsOf a) 8 x 16 (lit≤ tt) (omega (arith, room))
+
+  fits : Fits a
+  fits = record { known = r .known; short = rw (r .sized) (omega (arith, data-at-most (a .kind))); soon = r .soon }
+
+pub regular-fit : (l : List Action) → AllRegular l → AllFit l
+regular-fit [] rs = no-more
+regular-fit (a ∷ l) rs = one-more (fits (rs .0)) (regular-fit l (rs .1))
+
+-- what was cut from bytes, each with its listed length
+pub cut-regular : {n : ℕ} {s : List ℕ} {l : List Action} → Cuts n s l → Bytes s → allKeep Length l ≡ true → AllRegular l
+unfolding allKeep keeps
+cut-regular none bytes e = tt
+cut-regular {s = s} (more {f = f} facts cuts) bytes e =
+    let (here, after) = and-eq-true-iff (keeps Length (f .act)) _ .0 e in
+    let part = take 8 (drop 3 s) in
+    let long : length part ≡ 8 = length-take-le 8 (drop 3 s) (rw (length-drop 3 s) (omega (arith, facts .within))) in
+    let soon : number part < 256 ^ 8 = subst (λ (w : ℕ). number part < 256 ^ w) long (number-below part (bytes-take 8 (drop 3 s) (bytes-drop 3 s bytes))) in (
+      record {
+        known = facts .known;
+        soon = rw (facts .expires-is) soon;
+        sized = eqb-true _ _ here;
+        bytes = subst Bytes (sym (facts .payload-is)) (bytes-take (length (f .act .payload)) (drop 11 s) (bytes-drop 11 s bytes));
+      },
+      cut-regular cuts (subst Bytes (sym (facts .rest-is)) (bytes-drop (11 + length (f .act .payload)) s bytes)) after,
+    )
