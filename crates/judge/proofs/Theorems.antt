@@ -8,122 +8,184 @@ use Prim.Native.Nat.{ℕ, _≤_}
 use native.Mathlib.Omega.{arith}
 use borrow.Author.Tests.{le-leb}
 use lib.Dec.{eqb, ltb, lit≤}
-use lib.ListN.{length}
+use lib.ListN.{length, length-map}
 use Rattle.answer.specs.declared.Answer.{Answer}
 use Rattle.answer.specs.Numbers.{answer, accepted, accepts, firstRefusal, refuseIf, inTable}
 use Rattle.answer.specs.Refusable.{Refusable, given, refused}
-use Rattle.answer.proofs.Laws.{first-passes, first-refuses, no-rule}
-use Rattle.action.specs.Region.{Action, solLimit, solRecurringLimit, solMaxPerTx, tokenLimit, tokenRecurringLimit, tokenMaxPerTx}
+use Rattle.answer.proofs.Laws.{first-passes, first-refuses, no-rule, EachAccepts, each-accepts}
+use Rattle.number.specs.Number.{Bytes}
+use Rattle.action.specs.declared.Change.{Change}
+use Rattle.action.specs.Region.{Action, glue, solLimit, solRecurringLimit, solMaxPerTx, tokenLimit, tokenRecurringLimit, tokenMaxPerTx}
+use Rattle.action.specs.Fields.{changed}
 use Rattle.action.specs.Mints.{isListed}
 use Rattle.action.specs.Creation.{howOften, kindsOf, storedActions}
+use Rattle.action.proofs.Changing.{bytes-glued}
+use Rattle.action.proofs.Theorems.{stored-is-formed, stored-is-regular, glued-is-stored, formed-changed, regular-changed}
 use Rattle.compact.specs.Compact.{Instruction, Read, decode}
 use Rattle.account.specs.Table.{Record, cutTable}
 use Rattle.account.specs.Indexes.{keyAmong}
 use Rattle.account.proofs.Theorems.{every-refusal-of-a-table-is-13}
-use Rattle.limit.specs.Limit.{Charge, refusalOf, breaks, ruleAnswer, ofClass, classAnswer}
+use Rattle.limit.specs.Limit.{Charge, refusalOf, breaks, ruleAnswer, ofClass, classAnswer, changeOf, settled}
+use Rattle.limit.proofs.Taking.{EachKept, each-kept}
 use Rattle.judge.specs.Freeze.{allFrozen}
 use Rattle.judge.specs.Programs.{inLiveList, listsAnswer, programAnswer, programsAnswer}
-use Rattle.judge.specs.Judge.{Call, answerOf, recordsBefore, recordsAfter, programsOf, readAnswer, actionsOf, charged, soundness, rules, steps, judged, regionAfter}
+use Rattle.judge.specs.Judge.{Call, answerOf, recordsBefore, recordsAfter, programsOf, readAnswer, actionsOf, amountFor, charged, soundness, rules, steps, judged, regionAfter}
 use Rattle.judge.proofs.Steps.{refused-keeps, stored-refusal}
 
 -- a refusal leaves the region as it was
 pub a-refusal-leaves-the-region : (region : List ℕ) (call : Call) → accepts (judged region call) ≡ false → regionAfter region call ≡ region
 a-refusal-leaves-the-region region call e = refused-keeps region call e
 
--- ---- every number answered is in the table
+-- ---- every number answered is in the table, and none of a stored region is above 13
 
-abbrev Listed : Answer → Type 0
-Listed a = a .number ≤ 16
+module _ (most : ℕ) (enough : 13 ≤ most) where
+  abbrev Listed : Answer → Type 0
+  Listed a = a .number ≤ most
 
-abbrev AllListed : List Answer → Type 0
-AllListed [] = Unit {0}
-AllListed (a ∷ l) = Listed a × AllListed l
+  abbrev AllListed : List Answer → Type 0
+  AllListed [] = Unit {0}
+  AllListed (a ∷ l) = Listed a × AllListed l
 
-first-listed : (l : List Answer) → AllListed l → Listed (firstRefusal l)
-first-listed [] h = subst Listed (sym no-rule) (omega arith)
-first-listed (a ∷ l) h = go (accepts a) refl (first-listed l (h .1))
-  where
-    go : (t : Bool) → accepts a ≡ t → Listed (firstRefusal l) → Listed (firstRefusal (a ∷ l))
-    go true e more = subst Listed (sym (first-passes a l e)) more
-    go false e more = subst Listed (sym (first-refuses a l e)) (h .0)
+  first-listed : (l : List Answer) → AllListed l → Listed (firstRefusal l)
+  first-listed [] h = subst Listed (sym no-rule) (omega arith)
+  first-listed (a ∷ l) h = go (accepts a) refl (first-listed l (h .1))
+    where
+      go : (t : Bool) → accepts a ≡ t → Listed (firstRefusal l) → Listed (firstRefusal (a ∷ l))
+      go true e more = subst Listed (sym (first-passes a l e)) more
+      go false e more = subst Listed (sym (first-refuses a l e)) (h .0)
 
-each-listed : {A : Type 0} (f : A → Answer) → ((x : A) → Listed (f x)) → (l : List A) → AllListed (map f l)
-each-listed f h [] = tt
-each-listed f h (x ∷ l) = (h x, each-listed f h l)
+  each-listed : {A : Type 0} (f : A → Answer) → ((x : A) → Listed (f x)) → (l : List A) → AllListed (map f l)
+  each-listed f h [] = tt
+  each-listed f h (x ∷ l) = (h x, each-listed f h l)
 
-refusal-listed : (kind : ℕ) → refusalOf kind ≤ 16
-unfolding refusalOf
-refusal-listed kind = among (eqb kind solLimit) (eqb kind solRecurringLimit) (eqb kind solMaxPerTx) (eqb kind tokenLimit) (eqb kind tokenRecurringLimit) (eqb kind tokenMaxPerTx)
-  where
-    among : (a b c d e f : Bool) → cond a 7 (cond b 8 (cond c 6 (cond d 10 (cond e 11 (cond f 9 0))))) ≤ 16
-    among true b c d e f = lit≤ tt
-    among false true c d e f = lit≤ tt
-    among false false true d e f = lit≤ tt
-    among false false false true e f = lit≤ tt
-    among false false false false true f = lit≤ tt
-    among false false false false false true = lit≤ tt
-    among false false false false false false = lit≤ tt
+  refusal-listed : (kind : ℕ) → refusalOf kind ≤ most
+  unfolding refusalOf
+  refusal-listed kind = among (eqb kind solLimit) (eqb kind solRecurringLimit) (eqb kind solMaxPerTx) (eqb kind tokenLimit) (eqb kind tokenRecurringLimit) (eqb kind tokenMaxPerTx)
+    where
+      among : (a b c d e f : Bool) → cond a 7 (cond b 8 (cond c 6 (cond d 10 (cond e 11 (cond f 9 0))))) ≤ most
+      among true b c d e f = omega arith
+      among false true c d e f = omega arith
+      among false false true d e f = omega arith
+      among false false false true e f = omega arith
+      among false false false false true f = omega arith
+      among false false false false false true = omega arith
+      among false false false false false false = omega arith
 
-rule-listed : (broken : Bool) (n : ℕ) → n ≤ 16 → Listed (refuseIf broken n)
-rule-listed true n h = h
-rule-listed false n h = lit≤ tt
+  rule-listed : (broken : Bool) (n : ℕ) → n ≤ most → Listed (refuseIf broken n)
+  rule-listed true n h = h
+  rule-listed false n h = omega arith
 
-class-listed : (tokens : Bool) (slot : ℕ) (cs : List Charge) → Listed (classAnswer tokens slot cs)
-unfolding classAnswer ruleAnswer
-class-listed tokens slot cs = first-listed _ (each-listed _ one cs)
-  where
-    one : (c : Charge) → Listed (cond (ofClass tokens (c .act .kind)) (ruleAnswer slot c) (answer accepted))
-    one c = go (ofClass tokens (c .act .kind))
-      where
-        go : (b : Bool) → Listed (cond b (ruleAnswer slot c) (answer accepted))
-        go true = rule-listed (breaks slot (c .amount) (c .act)) (refusalOf (c .act .kind)) (refusal-listed (c .act .kind))
-        go false = omega arith
+  class-listed : (tokens : Bool) (slot : ℕ) (cs : List Charge) → Listed (classAnswer tokens slot cs)
+  unfolding classAnswer ruleAnswer
+  class-listed tokens slot cs = first-listed _ (each-listed _ one cs)
+    where
+      one : (c : Charge) → Listed (cond (ofClass tokens (c .act .kind)) (ruleAnswer slot c) (answer accepted))
+      one c = go (ofClass tokens (c .act .kind))
+        where
+          go : (b : Bool) → Listed (cond b (ruleAnswer slot c) (answer accepted))
+          go true = rule-listed (breaks slot (c .amount) (c .act)) (refusalOf (c .act .kind)) (refusal-listed (c .act .kind))
+          go false = omega arith
 
-lists-listed : (slot : ℕ) (l : List Action) (key : List ℕ) → Listed (listsAnswer slot l key)
-unfolding listsAnswer
-lists-listed slot l key =
-    first-listed _ (
-      rule-listed (ltb 0 (howOften 10 (kindsOf l)) && not (inLiveList 10 slot key l)) 4 (lit≤ tt),
-      (rule-listed (inLiveList 11 slot key l) 5 (lit≤ tt), tt),
-    )
+  lists-listed : (slot : ℕ) (l : List Action) (key : List ℕ) → Listed (listsAnswer slot l key)
+  unfolding listsAnswer
+  lists-listed slot l key =
+      first-listed _ (
+        rule-listed (ltb 0 (howOften 10 (kindsOf l)) && not (inLiveList 10 slot key l)) 4 (omega arith),
+        (rule-listed (inLiveList 11 slot key l) 5 (omega arith), tt),
+      )
 
-program-listed : (slot : ℕ) (l : List Action) (records : List Record) (program : ℕ) → Listed (programAnswer slot l records program)
-unfolding programAnswer
-program-listed slot l records program =
-    first-listed _ (rule-listed (not (ltb program (length records))) 3 (lit≤ tt), (lists-listed slot l (keyAmong records program), tt))
+  program-listed : (slot : ℕ) (l : List Action) (records : List Record) (program : ℕ) → Listed (programAnswer slot l records program)
+  unfolding programAnswer
+  program-listed slot l records program =
+      first-listed _ (rule-listed (not (ltb program (length records))) 3 (omega arith), (lists-listed slot l (keyAmong records program), tt))
 
-programs-listed : (slot : ℕ) (l : List Action) (records : List Record) (programs : List ℕ) → Listed (programsAnswer slot l records programs)
-unfolding programsAnswer
-programs-listed slot l records programs = first-listed _ (each-listed (programAnswer slot l records) (program-listed slot l records) programs)
+  programs-listed : (slot : ℕ) (l : List Action) (records : List Record) (programs : List ℕ) → Listed (programsAnswer slot l records programs)
+  unfolding programsAnswer
+  programs-listed slot l records programs = first-listed _ (each-listed (programAnswer slot l records) (program-listed slot l records) programs)
 
-table-listed : (s : List ℕ) → Listed (answerOf (cutTable s))
-table-listed s = go (cutTable s) refl
-  where
-    go : (x : Refusable (List Record)) → cutTable s ≡ x → Listed (answerOf x)
-    go (given l) e = omega arith
-    go (refused r) e = subst Listed (sym (every-refusal-of-a-table-is-13 s r e)) (omega arith)
+  table-listed : (s : List ℕ) → Listed (answerOf (cutTable s))
+  table-listed s = go (cutTable s) refl
+    where
+      go : (x : Refusable (List Record)) → cutTable s ≡ x → Listed (answerOf x)
+      go (given l) e = omega arith
+      go (refused r) e = subst Listed (sym (every-refusal-of-a-table-is-13 s r e)) (omega arith)
 
-region-listed : (s : List ℕ) → Listed (answerOf (storedActions s))
+  read-listed : (o : Option (Read (List Instruction))) → Listed (readAnswer o)
+  read-listed none = omega arith
+  read-listed (some d) = omega arith
+
+  steps-listed : (region : List ℕ) (call : Call) → Listed (answerOf (storedActions region)) → AllListed (steps region call)
+  unfolding steps soundness rules
+  steps-listed region call stored =
+      (rule-listed (not (eqb (length (call .vault)) 32)) 13 enough, (table-listed (call .before), (table-listed (call .after), (read-listed (decode (call .instructions)), (stored, ruled (actionsOf (storedActions region)))))))
+    where
+      ruled : (l : List Action) → AllListed (elim l [ [] ↦ [] | a ∷ k ↦ rules call (a ∷ k) ])
+      ruled [] = tt
+      ruled (a ∷ k) = (programs-listed (call .slot) (a ∷ k) (recordsBefore call) (programsOf (decode (call .instructions))), (rule-listed (not (allFrozen (call .vault) (λ (mint : List ℕ). isListed mint (a ∷ k)) (recordsAfter call) (recordsBefore call))) 12 (omega arith), (class-listed false (call .slot) (charged call (a ∷ k)), (class-listed true (call .slot) (charged call (a ∷ k)), tt))))
+
+  answer-listed : (region : List ℕ) (call : Call) → Listed (answerOf (storedActions region)) → Listed (judged region call)
+  unfolding judged
+  answer-listed region call stored = first-listed (steps region call) (steps-listed region call stored)
+
+region-listed : (s : List ℕ) → answerOf (storedActions s) .number ≤ 16
 region-listed s = go (storedActions s) refl
   where
-    go : (x : Refusable (List Action)) → storedActions s ≡ x → Listed (answerOf x)
+    go : (x : Refusable (List Action)) → storedActions s ≡ x → answerOf x .number ≤ 16
     go (given l) e = omega arith
-    go (refused r) e = subst Listed (sym (stored-refusal s r e)) (omega arith)
-
-read-listed : (o : Option (Read (List Instruction))) → Listed (readAnswer o)
-read-listed none = omega arith
-read-listed (some d) = omega arith
-
-steps-listed : (region : List ℕ) (call : Call) → AllListed (steps region call)
-unfolding steps soundness rules
-steps-listed region call =
-    (rule-listed (not (eqb (length (call .vault)) 32)) 13 (lit≤ tt), (table-listed (call .before), (table-listed (call .after), (read-listed (decode (call .instructions)), (region-listed region, ruled (actionsOf (storedActions region)))))))
-  where
-    ruled : (l : List Action) → AllListed (elim l [ [] ↦ [] | a ∷ k ↦ rules call (a ∷ k) ])
-    ruled [] = tt
-    ruled (a ∷ k) = (programs-listed (call .slot) (a ∷ k) (recordsBefore call) (programsOf (decode (call .instructions))), (rule-listed (not (allFrozen (call .vault) (λ (mint : List ℕ). isListed mint (a ∷ k)) (recordsAfter call) (recordsBefore call))) 12 (lit≤ tt), (class-listed false (call .slot) (charged call (a ∷ k)), (class-listed true (call .slot) (charged call (a ∷ k)), tt))))
+    go (refused r) e = subst (λ (a : Answer). a .number ≤ 16) (sym (stored-refusal s r e)) (omega arith)
 
 -- every number answered is in the table
 pub every-number-answered-is-in-the-table : (region : List ℕ) (call : Call) → inTable (judged region call .number) ≡ true
-unfolding judged inTable
-every-number-answered-is-in-the-table region call = le-leb _ _ (first-listed (steps region call) (steps-listed region call))
+unfolding inTable
+every-number-answered-is-in-the-table region call = le-leb _ _ (answer-listed 16 (lit≤ tt) region call (region-listed region))
+
+-- a region in stored form is never answered with a number above 13, so not with 15
+pub a-stored-region-is-not-refused-as-such : (region : List ℕ) (call : Call) {l : List Action} → storedActions region ≡ given l → judged region call .number ≤ 13
+a-stored-region-is-not-refused-as-such region call e =
+    answer-listed 13 (lit≤ tt) region call (subst (λ (x : Refusable (List Action)). answerOf x .number ≤ 13) (sym e) (omega arith))
+
+-- ---- what an accepted call makes of a region's actions
+
+-- what it writes into one
+unfoldable pub writes : Call → Action → Change
+writes call a = changeOf (call .slot) (record { act = a; amount = amountFor call a })
+
+module _ (call : Call) where
+  settled-is-changed : (l : List Action) → map (settled (call .slot)) (charged call l) ≡ map (λ (a : Action). changed (writes call a) a) l
+  unfolding charged settled writes
+  settled-is-changed [] = refl
+  settled-is-changed (a ∷ l) = ap (λ (k : List Action). changed (writes call a) a ∷ k) (settled-is-changed l)
+
+  module _ (region : List ℕ) {l : List Action} (stored : storedActions region ≡ given l) (h : accepts (judged region call) ≡ true) where
+    -- the region is its changed actions, glued
+    region-written : regionAfter region call ≡ glue (map (λ (a : Action). changed (writes call a) a) l)
+    unfolding regionAfter
+    region-written =
+        ap (λ (t : Bool). cond t (glue (map (settled (call .slot)) (charged call (actionsOf (storedActions region))))) region) h
+        ∙ ap (λ (x : Refusable (List Action)). glue (map (settled (call .slot)) (charged call (actionsOf x)))) stored
+        ∙ ap glue (settled-is-changed l)
+
+    -- the stored form is kept: those are its actions
+    pub an-accepted-call-keeps-the-stored-form : Bytes region → storedActions (regionAfter region call) ≡ given (map (λ (a : Action). changed (writes call a) a) l)
+    an-accepted-call-keeps-the-stored-form bytes =
+        let (regular, few) = stored-is-regular region l bytes stored in
+        let form = stored-is-formed region l stored .1 in
+        ap storedActions region-written
+        ∙ glued-is-stored (map (λ (a : Action). changed (writes call a) a) l) (regular-changed (writes call) l regular) (formed-changed (writes call) l regular form)
+        (rw (length-map l (λ (a : Action). changed (writes call a) a)) few)
+
+    pub an-accepted-call-keeps-bytes : Bytes region → Bytes (regionAfter region call)
+    an-accepted-call-keeps-bytes bytes =
+        subst Bytes (sym region-written)
+        (bytes-glued (map (λ (a : Action). changed (writes call a) a) l) (regular-changed (writes call) l (stored-is-regular region l bytes stored .0)))
+
+    -- each charge keeps its rule
+    pub accepted-charges-keep-their-rules : EachKept (call .slot) (charged call l)
+    unfolding judged steps soundness rules charged
+    accepted-charges-keep-their-rules =
+        let each = each-accepts (steps region call) h in
+        ruled l (subst (λ (x : Refusable (List Action)). EachAccepts (elim (actionsOf x) [ [] ↦ [] | a ∷ k ↦ rules call (a ∷ k) ])) stored (each .1 .1 .1 .1 .1))
+      where
+        ruled : (k : List Action) → EachAccepts (elim k [ [] ↦ [] | a ∷ m ↦ rules call (a ∷ m) ]) → EachKept (call .slot) (charged call k)
+        ruled [] e = tt
+        ruled (a ∷ m) e = each-kept (call .slot) (charged call (a ∷ m)) (e .1 .1 .0) (e .1 .1 .1 .0)

@@ -1,3 +1,4 @@
 pub mod Charging
 pub mod Rules
 pub mod Settling
+pub mod Taking
