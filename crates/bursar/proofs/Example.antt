@@ -1,0 +1,37 @@
+-- The example holds by computation.
+-- Assumes nothing.
+use mathlib.Core.Path.{_≡_, refl}
+use mathlib.Core.Option.{some}
+use mathlib.Core.List.{List, [], _∷_, _++_}
+use Rattle.answer.specs.NamedValue.{NamedValue, AsNamed}
+use Rattle.answer.specs.Numbers.{firstRefusal}
+use Rattle.key.specs.Key.{sameKey, sameBytes}
+use Rattle.number.specs.Number.{number, bytesOf, numberAt, cappedSum, flooredDifference, withNumberAt, highest}
+use Rattle.action.specs.Region.{glue, glueOne, cut, first, statedLength, dataLength, sizeAmong, expired}
+use Rattle.action.specs.Fields.{isToken, isRecurring, keyOf, amountsOf, changed, withAmounts}
+use Rattle.action.specs.Mints.{isListed}
+use Rattle.action.specs.Creation.{formOf, allKeep, keeps, bothLists, solRepeats, howOften, mintRepeats, mintAgain, inStoredForm, storedActions, creation}
+use Rattle.compact.specs.Compact.{mostInstructions, byte, front, decodeOne, decodeEach, decode}
+use Rattle.account.specs.Table.{cutTable, cutRecords, firstRecord}
+use Rattle.account.specs.Tokens.{balance}
+use Rattle.limit.specs.Limit.{refusalOf, windowOver, base, above, breaks, ruleAnswer, isSol, ofClass, classAnswer, spentChange, isLimit, liveChange, changeOf, settled}
+use Rattle.judge.specs.Freeze.{allFrozen}
+use Rattle.judge.specs.Programs.{programsAnswer}
+use Rattle.judge.specs.Judge.{recordsBefore, recordsAfter, decrease, amountFor, charged, soundness, rules, steps, judged, regionAfter}
+use Rattle.judge.specs.NamedValues.{called, spending}
+use Rattle.bursar.specs.Run.{sol, afterRun, numbersOf, takenBy, takenWhere}
+use Rattle.bursar.specs.Limits.{speaksOf, firstThat, limitOf, recurringOf}
+use Rattle.bursar.specs.Example.{holding, morning, exampleValues}
+
+pub as-named : AsNamed exampleValues
+unfolding exampleValues holding morning called spending afterRun numbersOf takenBy takenWhere speaksOf firstThat recurringOf judged regionAfter steps soundness rules charged amountFor decrease recordsBefore recordsAfter programsAnswer allFrozen classAnswer ofClass isSol ruleAnswer breaks above base windowOver refusalOf settled changeOf liveChange isLimit spentChange changed withAmounts storedActions inStoredForm creation formOf allKeep keeps bothLists solRepeats howOften mintRepeats mintAgain isToken isRecurring keyOf amountsOf isListed expired cut first statedLength dataLength sizeAmong glue glueOne number bytesOf numberAt cappedSum flooredDifference withNumberAt highest firstRefusal sameKey sameBytes cutTable cutRecords firstRecord balance mostInstructions byte front decodeOne decodeEach decode
+as-named = (refl, (refl, (refl, (refl, (refl, tt)))))
+
+-- both limits are there at the opening
+pub a-limit-is-there : limitOf sol (holding 100 0 0) ≡ some (bytesOf 8 100)
+unfolding limitOf holding speaksOf firstThat storedActions inStoredForm formOf allKeep keeps bothLists solRepeats howOften mintRepeats mintAgain isToken isRecurring keyOf amountsOf cut first statedLength dataLength sizeAmong glue glueOne number bytesOf numberAt firstRefusal sameKey sameBytes
+a-limit-is-there = refl
+
+pub a-recurring-limit-is-there : recurringOf sol (holding 100 0 0) ≡ some (bytesOf 8 50 ++ bytesOf 8 0 ++ bytesOf 8 10 ++ bytesOf 8 0)
+unfolding recurringOf holding speaksOf firstThat storedActions inStoredForm formOf allKeep keeps bothLists solRepeats howOften mintRepeats mintAgain isToken isRecurring keyOf amountsOf cut first statedLength dataLength sizeAmong glue glueOne number bytesOf numberAt firstRefusal sameKey sameBytes
+a-recurring-limit-is-there = refl

@@ -1,0 +1,4 @@
+pub mod Example
+pub mod OneCall
+pub mod Terms
+pub mod Theorems

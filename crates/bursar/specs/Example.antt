@@ -1,0 +1,39 @@
+-- A run with accepted and refused calls, a window that begins anew and a slot that goes back: the sentences speak of something.
+-- Assumes nothing.
+use Prim.Native.Nat.{ℕ}
+use mathlib.Core.List.{List, [], _∷_, _++_}
+use Rattle.answer.specs.NamedValue.{NamedValue}
+use Rattle.answer.specs.Numbers.{accepted, actionSolLimitExceeded, actionSolRecurringLimitExceeded}
+use Rattle.number.specs.Number.{bytesOf}
+use Rattle.action.specs.Region.{glue, solLimit, solRecurringLimit}
+use Rattle.action.specs.Creation.{creation}
+use Rattle.judge.specs.Judge.{Call}
+use Rattle.judge.specs.NamedValues.{spending}
+use Rattle.bursar.specs.Run.{sol, afterRun, numbersOf, taken}
+use Rattle.bursar.specs.Limits.{takenAt}
+
+-- a SolLimit with so much left, and a SolRecurringLimit of 50 in 10 slots: what is spent, and the last reset
+unfoldable pub holding : ℕ → ℕ → ℕ → List ℕ
+holding left spent reset =
+    glue
+    (record { kind = solLimit; expires = 0; payload = bytesOf 8 left }
+    ∷ record { kind = solRecurringLimit; expires = 0; payload = bytesOf 8 50 ++ bytesOf 8 spent ++ bytesOf 8 10 ++ bytesOf 8 reset }
+    ∷ [])
+
+-- slot 5 twice, slot 25, back to slot 3, slot 26
+unfoldable pub morning : List Call
+unfolding spending
+morning = spending 5 30 ∷ spending 5 30 ∷ spending 25 40 ∷ spending 3 5 ∷ spending 26 26 ∷ []
+
+unfoldable pub exampleValues : List NamedValue
+unfolding holding morning
+exampleValues =
+    record { gives = creation (holding 100 0 0) .number ∷ []; named = accepted ∷ [] }
+    ∷ record {
+      gives = numbersOf (holding 100 0 0) morning;
+      named = accepted ∷ actionSolRecurringLimitExceeded ∷ accepted ∷ accepted ∷ actionSolLimitExceeded ∷ [];
+    }
+    ∷ record { gives = afterRun (holding 100 0 0) morning; named = holding 25 45 20 }
+    ∷ record { gives = taken sol (holding 100 0 0) morning ∷ []; named = 75 ∷ [] }
+    ∷ record { gives = takenAt 0 sol (holding 100 0 0) morning ∷ takenAt 20 sol (holding 100 0 0) morning ∷ []; named = 30 ∷ 45 ∷ [] }
+    ∷ []
