@@ -3,6 +3,7 @@
 use mathlib.Core.Path.{_≡_, refl}
 use mathlib.Core.Option.{some}
 use mathlib.Core.List.{List, [], _∷_, _++_}
+use lib.ListN.{replicate}
 use Rattle.answer.specs.NamedValue.{NamedValue, AsNamed}
 use Rattle.answer.specs.Numbers.{firstRefusal}
 use Rattle.key.specs.Key.{sameKey, sameBytes}
@@ -19,9 +20,9 @@ use Rattle.judge.specs.Freeze.{allFrozen}
 use Rattle.judge.specs.Programs.{programsAnswer}
 use Rattle.judge.specs.Judge.{recordsBefore, recordsAfter, decrease, amountFor, charged, soundness, rules, steps, judged, regionAfter}
 use Rattle.judge.specs.NamedValues.{called, spending}
-use Rattle.bursar.specs.Run.{sol, afterRun, numbersOf, takenBy, takenWhere}
+use Rattle.bursar.specs.Run.{sol, tokens, afterRun, numbersOf, takenBy, takenWhere}
 use Rattle.bursar.specs.Limits.{speaksOf, firstThat, limitOf, recurringOf}
-use Rattle.bursar.specs.Example.{holding, morning, exampleValues}
+use Rattle.bursar.specs.Example.{holding, morning, exampleValues, twoMints}
 
 pub as-named : AsNamed exampleValues
 unfolding exampleValues holding morning called spending afterRun numbersOf takenBy takenWhere speaksOf firstThat recurringOf judged regionAfter steps soundness rules charged amountFor decrease recordsBefore recordsAfter programsAnswer allFrozen classAnswer ofClass isSol ruleAnswer breaks above base windowOver refusalOf settled changeOf liveChange isLimit spentChange changed withAmounts storedActions inStoredForm creation formOf allKeep keeps bothLists solRepeats howOften mintRepeats mintAgain isToken isRecurring keyOf amountsOf isListed expired cut first statedLength dataLength sizeAmong glue glueOne number bytesOf numberAt cappedSum flooredDifference withNumberAt highest firstRefusal sameKey sameBytes cutTable cutRecords firstRecord balance mostInstructions byte front decodeOne decodeEach decode
@@ -35,3 +36,8 @@ a-limit-is-there = refl
 pub a-recurring-limit-is-there : recurringOf sol (holding 100 0 0) ≡ some (bytesOf 8 50 ++ bytesOf 8 0 ++ bytesOf 8 10 ++ bytesOf 8 0)
 unfolding recurringOf holding speaksOf firstThat storedActions inStoredForm formOf allKeep keeps bothLists solRepeats howOften mintRepeats mintAgain isToken isRecurring keyOf amountsOf cut first statedLength dataLength sizeAmong glue glueOne number bytesOf numberAt firstRefusal sameKey sameBytes
 a-recurring-limit-is-there = refl
+
+-- and each mint has its own
+pub each-mint-has-its-own-limit : limitOf (tokens (replicate 32 2)) twoMints ≡ some (bytesOf 8 7)
+unfolding limitOf twoMints speaksOf firstThat storedActions inStoredForm formOf allKeep keeps bothLists solRepeats howOften mintRepeats mintAgain isToken isRecurring keyOf amountsOf cut first statedLength dataLength sizeAmong glue glueOne number bytesOf numberAt firstRefusal sameKey sameBytes
+each-mint-has-its-own-limit = refl

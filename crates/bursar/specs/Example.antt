@@ -2,10 +2,11 @@
 -- Assumes nothing.
 use Prim.Native.Nat.{ℕ}
 use mathlib.Core.List.{List, [], _∷_, _++_}
+use lib.ListN.{replicate}
 use Rattle.answer.specs.NamedValue.{NamedValue}
 use Rattle.answer.specs.Numbers.{accepted, actionSolLimitExceeded, actionSolRecurringLimitExceeded}
 use Rattle.number.specs.Number.{bytesOf}
-use Rattle.action.specs.Region.{glue, solLimit, solRecurringLimit}
+use Rattle.action.specs.Region.{glue, solLimit, solRecurringLimit, tokenLimit}
 use Rattle.action.specs.Creation.{creation}
 use Rattle.judge.specs.Judge.{Call}
 use Rattle.judge.specs.NamedValues.{spending}
@@ -37,3 +38,11 @@ exampleValues =
     ∷ record { gives = taken sol (holding 100 0 0) morning ∷ []; named = 75 ∷ [] }
     ∷ record { gives = takenAt 0 sol (holding 100 0 0) morning ∷ takenAt 20 sol (holding 100 0 0) morning ∷ []; named = 30 ∷ 45 ∷ [] }
     ∷ []
+
+-- TokenLimits of two mints, with 5 left of one and 7 of the other
+unfoldable pub twoMints : List ℕ
+twoMints =
+    glue
+    (record { kind = tokenLimit; expires = 0; payload = replicate 32 1 ++ bytesOf 8 5 }
+    ∷ record { kind = tokenLimit; expires = 0; payload = replicate 32 2 ++ bytesOf 8 7 }
+    ∷ [])
