@@ -54,6 +54,11 @@ pub mod table;
 
 pub use refusal::Refusal;
 
+/// The README's example is run with those of the crate.
+#[cfg(doctest)]
+#[doc = include_str!("../../../README.md")]
+struct Readme;
+
 /// A key of 32 bytes: an account's, a mint's or a program's.
 pub type Key = [u8; 32];
 

@@ -79,8 +79,9 @@ macro_rules! refusals {
 
 refusals! {
     1 ActionBufferInvalid "ActionBufferInvalid"
-    "The spending rules for this tablet are not sound: one is incomplete, unknown, repeated, over \
-     the 16 allowed, or not fresh. Nothing was saved; ask whoever wrote the rules to mend them."
+    "The spending rules for this tablet are not sound: there are more than 16, or one is incomplete, \
+     unknown, repeated or already part-used. Nothing was saved; ask whoever wrote the rules to mend \
+     them."
 
     2 ActionWhitelistBlacklistConflict "ActionWhitelistBlacklistConflict"
     "The spending rules list allowed programs and forbidden ones, and only one kind of list may be \
