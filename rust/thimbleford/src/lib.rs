@@ -123,6 +123,25 @@ pub fn create(region: &[u8]) -> Result<(), Refusal> {
 /// let short = Call { vault: &[7; 31], ..call };
 /// assert_eq!(judge(&mut [], &short), Err(Refusal::BadTable));
 /// ```
+///
+/// The region is lent for writing, so no part of a call can lie in it:
+///
+/// ```compile_fail,E0502
+/// # use thimbleford::{judge, Call};
+/// # let call = Call {
+/// #     before: &[],
+/// #     after: &[],
+/// #     instructions: &[],
+/// #     vault: &[],
+/// #     slot: 0,
+/// #     lamports_before: 0,
+/// #     lamports_after: 0,
+/// #     gross: 0,
+/// # };
+/// let mut region = [0; 19];
+/// let within = Call { before: &region[..2], ..call };
+/// judge(&mut region, &within);
+/// ```
 pub fn judge(region: &mut [u8], call: &Call<'_>) -> Result<(), Refusal> {
     Refusal::check(boundary::judge(region, call))
 }
