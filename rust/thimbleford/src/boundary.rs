@@ -1,8 +1,16 @@
 //! The two C functions of `libthimbleford.a`, as crates/thimbleford declares
-//! them: a slice is an address and a length.
+//! them: a slice is an address and a length. The test `declaration` holds the two
+//! declarations together.
+//!
+//! This is all of the crate's `unsafe`. It rests on what is proved of the two
+//! functions for any bytes: they end, they touch nothing but the slices they are
+//! lent, and of those they write the region alone.
 #![allow(unsafe_code)]
 
 use crate::Call;
+
+/// A length of the boundary has 64 bits.
+const _: () = assert!(usize::BITS == 64);
 
 extern "C" {
     fn thimbleford_create(region: *const u8, region_len: usize) -> u32;
@@ -26,14 +34,16 @@ extern "C" {
 
 /// The number that creation answers to a region.
 pub(crate) fn create(region: &[u8]) -> u32 {
-    // SAFETY: the function reads the slice and keeps nothing of it.
+    // SAFETY: address and length are of one lent slice; the function reads within
+    // it and keeps nothing of it.
     unsafe { thimbleford_create(region.as_ptr(), region.len()) }
 }
 
 /// The number that a judged call answers; only 0 writes the region.
 pub(crate) fn judge(region: &mut [u8], call: &Call<'_>) -> u32 {
-    // SAFETY: the function writes within the region, reads the other slices and
-    // keeps nothing of any; the borrows say that none overlaps the region.
+    // SAFETY: each address and length are of one lent slice; the function writes
+    // within the region, reads within the others and keeps nothing of any. The
+    // region is borrowed alone, so none overlaps it.
     unsafe {
         thimbleford_judge(
             region.as_mut_ptr(),

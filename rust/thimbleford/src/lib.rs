@@ -1,12 +1,72 @@
 //! Judges what a school's tablet may spend, for the co-signer of its vault.
+//!
+//! A session's policy is an *action region*: bytes that the co-signer stores.
+//! [`create`] says whether a region may be stored. For each transaction [`judge`]
+//! looks at the accounts before and after, and says whether it may be signed; an
+//! accepted call lowers what is left in the region, which is then stored again.
+//!
+//! Both call proved functions across a C boundary: what each answers and each byte
+//! it leaves is determined by a definition, for any bytes at all. On the way there
+//! is no allocation and no panic, and nothing is kept, so calls on different
+//! regions may be made at once.
+//!
+//! The parts are built and read by
+//! - [`region`]: an action region from typed actions, and what is left in one,
+//! - [`table`]: an account table from records,
+//! - [`instructions`]: compact instructions from lists.
+//!
+//! ```
+//! use thimbleford::{create, instructions, judge, table, Call, Refusal};
+//! use thimbleford::region::{self, Action, Rule, NEVER};
+//!
+//! let mut policy = region::build(&[
+//!     Action { expires_at: NEVER, rule: Rule::SolLimit { remaining: 100 } },
+//! ])?;
+//! create(&policy)?;
+//!
+//! let accounts = table::build(&[])?;
+//! let nothing = instructions::build(&[], 0)?;
+//! let call = Call {
+//!     before: &accounts,
+//!     after: &accounts,
+//!     instructions: &nothing,
+//!     vault: &[7; 32],
+//!     slot: 1,
+//!     lamports_before: 500,
+//!     lamports_after: 460,
+//!     gross: 40,
+//! };
+//! judge(&mut policy, &call)?;
+//! assert_eq!(region::read(&policy)?[0].remaining(1), Some(60));
+//!
+//! let dearer = Call { lamports_after: 439, gross: 61, ..call };
+//! assert_eq!(judge(&mut policy, &dearer), Err(Refusal::ActionSolLimitExceeded));
+//! # Ok::<(), Box<dyn std::error::Error>>(())
+//! ```
 
+mod action;
 mod boundary;
+mod bytes;
+pub mod instructions;
 mod refusal;
+pub mod region;
+pub mod table;
 
 pub use refusal::Refusal;
 
+/// The README's example is run with those of the crate.
+#[cfg(doctest)]
+#[doc = include_str!("../../../README.md")]
+struct Readme;
+
+/// A key of 32 bytes: an account's, a mint's or a program's.
+pub type Key = [u8; 32];
+
 /// What a judged call is about: the accounts before and after, what is to be
 /// run, whose vault it is, and the lamports that move.
+///
+/// The parts are lent as bytes, since they are judged as they came: a table that
+/// is malformed or a key of another length is refused, not impossible.
 #[derive(Clone, Copy, Debug)]
 pub struct Call<'a> {
     /// The account table before execution.
@@ -28,12 +88,60 @@ pub struct Call<'a> {
 }
 
 /// Whether a region may be created.
+///
+/// ```
+/// use thimbleford::{create, Refusal};
+///
+/// // No actions, no limits.
+/// assert_eq!(create(&[]), Ok(()));
+/// // A type without the rest of its header.
+/// assert_eq!(create(&[1]), Err(Refusal::ActionBufferInvalid));
+/// ```
 pub fn create(region: &[u8]) -> Result<(), Refusal> {
     Refusal::check(boundary::create(region))
 }
 
 /// Judges a call on a stored region. An accepted one lowers what is left in the
 /// region; a refused one changes nothing.
+///
+/// ```
+/// use thimbleford::{judge, Call, Refusal};
+///
+/// let table = [0, 0];
+/// let call = Call {
+///     before: &table,
+///     after: &table,
+///     instructions: &[0],
+///     vault: &[7; 32],
+///     slot: 1,
+///     lamports_before: 5,
+///     lamports_after: 0,
+///     gross: 5,
+/// };
+/// // The empty region limits nothing.
+/// assert_eq!(judge(&mut [], &call), Ok(()));
+/// let short = Call { vault: &[7; 31], ..call };
+/// assert_eq!(judge(&mut [], &short), Err(Refusal::BadTable));
+/// ```
+///
+/// The region is lent for writing, so no part of a call can lie in it:
+///
+/// ```compile_fail,E0502
+/// # use thimbleford::{judge, Call};
+/// # let call = Call {
+/// #     before: &[],
+/// #     after: &[],
+/// #     instructions: &[],
+/// #     vault: &[],
+/// #     slot: 0,
+/// #     lamports_before: 0,
+/// #     lamports_after: 0,
+/// #     gross: 0,
+/// # };
+/// let mut region = [0; 19];
+/// let within = Call { before: &region[..2], ..call };
+/// judge(&mut region, &within);
+/// ```
 pub fn judge(region: &mut [u8], call: &Call<'_>) -> Result<(), Refusal> {
     Refusal::check(boundary::judge(region, call))
 }
