@@ -69,7 +69,7 @@ pub within-ends : (source : List ℕ) (r : Range) → within source r ≡ true �
 unfolding within
 within-ends source r h = leb-true _ _ h
 
--- what the tests of an entry decide, each past those before it
+-- what each test of an entry decides
 module _ (count : ℕ) (source : List ℕ) (e : Entry) where
   pub accounts-past-the-end : within source (e .accounts) ≡ false → resolvable count source e ≡ false
   unfolding resolvable
