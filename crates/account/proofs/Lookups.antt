@@ -1,19 +1,22 @@
 -- Laws of indexes: the key at one, whether all are below a count, and what resolving answers.
 -- Assumes nothing.
 use mathlib.Core.Path.{_≡_, ap, _∙_}
-use mathlib.Core.Bool.{true, false, not, _&&_, and-false}
+use mathlib.Core.Bool.{Bool, true, false, not, _&&_, and-false}
 use mathlib.Core.List.{List, [], _∷_, map}
-use Prim.Native.Nat.{ℕ, zero, suc, _<_, _≤_}
+use Prim.Native.Nat.{ℕ, zero, suc, _+_, _<_, _≤_}
 use native.Mathlib.Omega.{arith}
-use borrow.Author.Tests.{lt-ltb, le-ltb}
+use borrow.Author.Tests.{leb-true, lt-ltb, le-ltb}
 use lib.ListN.{length, getD, drop, length-map, drop-of-length-le, List·getD-eq-default}
 use lib.Seq.{drop-cons}
 use lib.Dec.{ltb}
-use Rattle.answer.specs.Numbers.{answer, accepts, accepted, refuseIf, invalidInstructionData}
+use Rattle.answer.specs.Numbers.{accepts, refuseIf, invalidInstructionData}
+use Rattle.compact.specs.declared.Range.{Range}
+use Rattle.compact.specs.declared.Entry.{Entry}
+use Rattle.compact.specs.Compact.{within, part}
 use Rattle.account.specs.declared.RecordView.{RecordView}
 use Rattle.account.specs.declared.Table.{Table}
 use Rattle.account.specs.Table.{Record, cutTable}
-use Rattle.account.specs.Indexes.{allBelow, resolving, keyAmong, keyAt}
+use Rattle.account.specs.Indexes.{allBelow, resolvable, resolving, keyAmong, keyAt}
 use Rattle.account.specs.Views.{recordAt, recordsAt, tableOf}
 use Rattle.account.proofs.Views.{records-step, records-of-table, table-malformed, table-sound, table-count}
 
@@ -62,21 +65,36 @@ module _ (count : ℕ) (is : List ℕ) (i : ℕ) where
 
 -- ---- resolving
 
-module _ (s : List ℕ) (program : ℕ) (accounts : List ℕ) (cut : Table) (whole : cut ≡ tableOf (cutTable s)) where
-  pub resolve-malformed : accepts (cut .answer) ≡ false → resolving s program accounts ≡ cut .answer
+pub within-ends : (source : List ℕ) (r : Range) → within source r ≡ true → r .start + r .len ≤ length source
+unfolding within
+within-ends source r h = leb-true _ _ h
+
+-- what each test of an entry decides
+module _ (count : ℕ) (source : List ℕ) (e : Entry) where
+  pub accounts-past-the-end : within source (e .accounts) ≡ false → resolvable count source e ≡ false
+  unfolding resolvable
+  accounts-past-the-end h = rw h
+
+  pub payload-past-the-end : within source (e .payload) ≡ false → resolvable count source e ≡ false
+  unfolding resolvable
+  payload-past-the-end h = rw (h, and-false)
+
+  pub program-past-the-count : count ≤ e .program → resolvable count source e ≡ false
+  unfolding resolvable
+  program-past-the-count h = rw (le-ltb _ _ h, and-false)
+
+  pub accounts-decide : within source (e .accounts) ≡ true → within source (e .payload) ≡ true → e .program < count
+      → resolvable count source e ≡ allBelow count (part source (e .accounts))
+  unfolding resolvable
+  accounts-decide ha hp h = rw (ha, hp, lt-ltb _ _ h)
+
+module _ (s : List ℕ) (e : Entry) (source : List ℕ) (cut : Table) (whole : cut ≡ tableOf (cutTable s)) where
+  pub resolve-malformed : accepts (cut .answer) ≡ false → resolving s e source ≡ cut .answer
   unfolding resolving
   resolve-malformed h = rw (table-malformed s cut whole h, resolving)
 
-  module _ (sound : accepts (cut .answer) ≡ true) where
-    resolve-sound : resolving s program accounts ≡ refuseIf (not (ltb program (cut .count) && allBelow (cut .count) accounts)) invalidInstructionData
-    unfolding resolving
-    resolve-sound = rw (table-sound s cut whole sound, resolving, table-count s cut whole)
-
-    pub resolve-bad-program : cut .count ≤ program → resolving s program accounts ≡ answer invalidInstructionData
-    resolve-bad-program h = resolve-sound ∙ rw (le-ltb _ _ h)
-
-    pub resolve-bad-account : allBelow (cut .count) accounts ≡ false → resolving s program accounts ≡ answer invalidInstructionData
-    resolve-bad-account h = resolve-sound ∙ rw (h, and-false)
-
-    pub resolve-resolved : program < cut .count → allBelow (cut .count) accounts ≡ true → resolving s program accounts ≡ answer accepted
-    resolve-resolved h b = resolve-sound ∙ rw (lt-ltb _ _ h, b)
+  -- past a sound table the test of the entry decides
+  pub resolve-sound : (fits : Bool) → accepts (cut .answer) ≡ true → resolvable (cut .count) source e ≡ fits
+      → resolving s e source ≡ refuseIf (not fits) invalidInstructionData
+  unfolding resolving
+  resolve-sound fits h decided = rw (table-sound s cut whole h, resolving, table-count s cut whole, decided)

@@ -1,4 +1,4 @@
--- Indexes into a table: resolving an instruction's, and the key at one.
+-- Indexes into a table: resolving those of an instruction, and the key at one.
 -- Assumes nothing.
 use Prim.Native.Nat.{ℕ}
 use mathlib.Core.Bool.{Bool, true, not, _&&_}
@@ -8,6 +8,8 @@ use lib.ListN.{length, getD}
 use Rattle.answer.specs.declared.Answer.{Answer}
 use Rattle.answer.specs.Numbers.{refuseIf, invalidInstructionData}
 use Rattle.answer.specs.Refusable.{given, refused}
+use Rattle.compact.specs.declared.Entry.{Entry}
+use Rattle.compact.specs.Compact.{within, part}
 use Rattle.account.specs.Table.{Record, cutTable, recordsOf}
 
 -- whether each of some indexes is below a count
@@ -15,12 +17,17 @@ unfoldable pub allBelow : ℕ → List ℕ → Bool
 allBelow count [] = true
 allBelow count (i ∷ is) = ltb i count && allBelow count is
 
--- what resolving a program index and account indexes answers: a malformed table first, then an index not below its count
-unfoldable pub resolving : List ℕ → ℕ → List ℕ → Answer
-unfolding cutTable allBelow
-resolving table program accounts =
+-- whether an entry names what is there: both ranges within its source, its program index and all account indexes below a count
+unfoldable pub resolvable : ℕ → List ℕ → Entry → Bool
+resolvable count source e =
+    within source (e .accounts) && within source (e .payload) && ltb (e .program) count && allBelow count (part source (e .accounts))
+
+-- what resolving an entry of a source answers: a malformed table first, then an entry that names what is not there
+unfoldable pub resolving : List ℕ → Entry → List ℕ → Answer
+unfolding cutTable resolvable
+resolving table e source =
     elim (cutTable table) [
-      | given l ↦ refuseIf (not (ltb program (length l) && allBelow (length l) accounts)) invalidInstructionData
+      | given l ↦ refuseIf (not (resolvable (length l) source e)) invalidInstructionData
       | refused r ↦ r
     ]
 

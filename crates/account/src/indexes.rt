@@ -6,8 +6,9 @@ use crate::parse;
 use answer::ACCEPTED;
 use answer::Answer;
 use answer::INVALID_INSTRUCTION_DATA;
+use compact::Entry;
 ghost use mathlib.Core.Path.{_≡_};
-ghost use Rattle.account.specs.Indexes.{allBelow, resolving, keyAmong, keyAt};
+ghost use Rattle.account.specs.Indexes.{allBelow, resolvable, resolving, keyAmong, keyAt};
 ghost use Rattle.account.specs.Views.{recordsAt};
 
 // The key of the record at an index of a table that was cut, or the empty part past the last.
@@ -45,18 +46,35 @@ fn all_below(indexes: &[u8], count: usize) -> bool
     true
 }
 
-// Whether a program index and account indexes name records of a table.
-pub fn resolve(table: &[u8], program: u8, accounts: &[u8]) -> Answer
-    ensures { λ r. ⌜ r ≡ resolving (now (table .entry)) program (now (accounts .entry)) ⌝ }
+// Whether an entry's ranges lie within its source, and its indexes are below a count.
+fn is_resolvable(count: usize, source: &[u8], entry: Entry) -> bool
+    ensures { λ r. ⌜ r ≡ resolvable count (now (source .entry)) entry ⌝ }
+{
+    let accounts = entry.accounts;
+    let payload = entry.payload;
+    if !compact::within(source, accounts) {
+        return false;
+    }
+    if !compact::within(source, payload) {
+        return false;
+    }
+    if count <= entry.program as usize {
+        return false;
+    }
+    let start = accounts.start;
+    let end = start + accounts.len;
+    all_below(&source[start..end], count)
+}
+
+// Whether an entry of a source can be resolved against a table. The table is looked at first.
+pub fn resolve(table: &[u8], entry: Entry, source: &[u8]) -> Answer
+    ensures { λ r. ⌜ r ≡ resolving (now (table .entry)) entry (now (source .entry)) ⌝ }
 {
     let cut = parse::cut_table(table);
     if !cut.answer.accepts() {
         return cut.answer;
     }
-    if cut.count <= program as usize {
-        return Answer::of(INVALID_INSTRUCTION_DATA);
-    }
-    if !all_below(accounts, cut.count) {
+    if !is_resolvable(cut.count, source, entry) {
         return Answer::of(INVALID_INSTRUCTION_DATA);
     }
     Answer::of(ACCEPTED)

@@ -1,12 +1,11 @@
 // Token accounts: which records are counted, and a mint's balance over them.
-use crate::MAX_RECORDS;
 use crate::RecordView;
 use crate::Table;
 use crate::fields;
+use crate::parse;
 use crate::programs::SPL_TOKEN;
 use crate::programs::TOKEN_2022;
 ghost use mathlib.Core.Path.{_≡_};
-ghost use Prim.Native.Nat.{min};
 ghost use Rattle.number.specs.Number.{cappedSum};
 ghost use Rattle.account.specs.Tokens.{isTokenAccount, mintOf, isCounted, share, balance as balanceOf};
 ghost use Rattle.account.specs.Views.{recordAt, recordsAt};
@@ -69,22 +68,12 @@ fn added(total: u64, table: &[u8], view: RecordView, vault: &[u8], mint: &[u8]) 
     number::capped_sum(total, amount)
 }
 
-fn at_most_all(count: usize) -> usize
-    ensures { λ r. ⌜ r ≡ min count 64 ⌝ }
-{
-    if count < MAX_RECORDS {
-        count
-    } else {
-        MAX_RECORDS
-    }
-}
-
 // A mint's balance over the counted records, from the last to the first as the sum is defined.
 pub fn balance(table: &[u8], cut: Table, vault: &[u8], mint: &[u8]) -> u64
     ensures { λ r. ⌜ r ≡ balanceOf (now (vault .entry)) (now (mint .entry)) (recordsAt (now (table .entry)) cut) ⌝ }
 {
     let mut total = 0;
-    let mut i = at_most_all(cut.count);
+    let mut i = parse::records_counted(cut.count);
     while 0 < i {
         i -= 1;
         let view = cut.views[i];

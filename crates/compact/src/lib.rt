@@ -156,8 +156,8 @@ pub fn parse_compact_instructions(bytes: &[u8]) -> Parsed
     }
 }
 
-// Whether a range lies within a source.
-fn within(source: &[u8], range: Range) -> bool
+// Whether a range lies within a source. No sum is made: a range may name any place.
+pub fn within(source: &[u8], range: Range) -> bool
     ensures { λ r. ⌜ r ≡ within (now (source .entry)) range ⌝ }
 {
     let start = range.start;

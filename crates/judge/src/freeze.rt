@@ -1,9 +1,9 @@
 // Step 6: the authorities of the vault's token accounts of listed mints stay as they were.
-use account::MAX_RECORDS;
 use account::RecordView;
 use account::Table;
 use account::fields::record_key;
 use account::fields::record_payload;
+use account::parse::records_counted;
 use account::tokens::is_counted;
 use account::tokens::is_token_account;
 use account::tokens::mint_of;
@@ -11,7 +11,7 @@ use key::KEY_LENGTH;
 use key::Keys;
 ghost use mathlib.Core.Path.{_≡_};
 ghost use mathlib.Core.List.{List};
-ghost use Prim.Native.Nat.{ℕ, min};
+ghost use Prim.Native.Nat.{ℕ};
 ghost use lib.ListN.{take, drop};
 ghost use Rattle.key.specs.Key.{isAmong, keysIn};
 ghost use Rattle.account.specs.Views.{recordAt, recordsAt};
@@ -66,22 +66,11 @@ fn is_still(payload: &[u8], table: &[u8], view: RecordView) -> bool
     same_authorities(payload, record_payload(table, view))
 }
 
-// How many records there are to look at, whatever the count says.
-fn records_counted(cut: Table) -> usize
-    ensures { λ r. ⌜ r ≡ min (cut .count) 64 ⌝ }
-{
-    if cut.count < MAX_RECORDS {
-        cut.count
-    } else {
-        MAX_RECORDS
-    }
-}
-
 // Whether the first record with the key is still that account.
 fn still_there(payload: &[u8], key: &[u8], table: &[u8], cut: Table) -> bool
     ensures { λ r. ⌜ r ≡ isFoundStill (now (payload .entry)) (firstWithKey (now (key .entry)) (recordsAt (now (table .entry)) cut)) ⌝ }
 {
-    let n = records_counted(cut);
+    let n = records_counted(cut.count);
     let mut i = 0;
     while i < n {
         let view = cut.views[i];
@@ -124,7 +113,7 @@ pub fn verify_token_authorities_unchanged(
 ) -> bool
     ensures { λ r. ⌜ r ≡ allFrozen (now (vault .entry)) (λ (mint : List ℕ). isAmong mint (keysIn mints)) (recordsAt (now (after .entry)) «after_cut») (recordsAt (now (before .entry)) «before_cut») ⌝ }
 {
-    let n = records_counted(before_cut);
+    let n = records_counted(before_cut.count);
     let mut i = 0;
     while i < n {
         let view = before_cut.views[i];

@@ -1,21 +1,30 @@
-// The account table: resolving indexes, and looking a key up.
+// The account table: resolving an entry, and looking a key up.
+use crate::instructions;
 use crate::text;
 
 const LENGTH_SIZE: usize = 4;
 
 const INDEX_SIZE: usize = 8;
 
-// A table of `len` bytes, a program index (1) and account indexes.
-fn resolve_after(rest: &[u8], len: usize, out: &mut [u8]) -> usize {
-    if rest.len() <= len {
+// An entry and its source, against a table.
+fn resolve_entry(table: &[u8], rest: &[u8], out: &mut [u8]) -> usize {
+    if rest.len() < instructions::ENTRY_SIZE {
         return text::unknown(out);
     }
-    let program = rest[len];
-    let answer = account::indexes::resolve(&rest[0..len], program, &rest[len + 1..]);
+    let entry = instructions::entry_of(&rest[0..instructions::ENTRY_SIZE]);
+    let answer = account::indexes::resolve(table, entry, &rest[instructions::ENTRY_SIZE..]);
     text::put_decimal(out, 0, answer.number as u64)
 }
 
-// The table's length (4), the table, a program index (1) and account indexes: resolving's number.
+// A table of `len` bytes, an entry and its source.
+fn resolve_after(rest: &[u8], len: usize, out: &mut [u8]) -> usize {
+    if rest.len() < len {
+        return text::unknown(out);
+    }
+    resolve_entry(&rest[0..len], &rest[len..], out)
+}
+
+// The table's length (4), the table, an entry and its source: resolving's number.
 pub(crate) fn resolve(payload: &[u8], out: &mut [u8]) -> usize {
     if payload.len() < LENGTH_SIZE {
         return text::unknown(out);

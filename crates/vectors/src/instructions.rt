@@ -5,9 +5,15 @@ use compact::Entry;
 use compact::MAX_COMPACT_INSTRUCTIONS;
 use compact::Range;
 
-const ENTRY_SIZE: usize = 17;
+pub(crate) const ENTRY_SIZE: usize = 33;
 
 const LENGTH_SIZE: usize = 4;
+
+const PLACE_SIZE: usize = 8;
+
+const ACCOUNTS_PLACE: usize = 1;
+
+const PAYLOAD_PLACE: usize = 17;
 
 // What stands in the output before anything is written.
 const UNWRITTEN: u8 = 0xee;
@@ -60,14 +66,15 @@ fn range_at(payload: &[u8], at: usize) -> Range {
     }
     let field = &payload[at..];
     Range {
-        start: number::read_u32(field, 0) as usize,
-        len: number::read_u32(field, LENGTH_SIZE) as usize,
+        start: number::read_u64(field, 0) as usize,
+        len: number::read_u64(field, PLACE_SIZE) as usize,
     }
 }
 
-fn entry_of(field: &[u8]) -> Entry {
-    let accounts = range_at(field, 1);
-    let payload = range_at(field, 9);
+// An entry: program (1), and the start and length (8 each) of its accounts and of its data.
+pub(crate) fn entry_of(field: &[u8]) -> Entry {
+    let accounts = range_at(field, ACCOUNTS_PLACE);
+    let payload = range_at(field, PAYLOAD_PLACE);
     let mut program = 0;
     if 0 < field.len() {
         program = field[0];
@@ -136,8 +143,7 @@ fn write_after(rest: &[u8], count: u8, room: &mut [u8], out: &mut [u8]) -> usize
     write_to(&mut room[0..len], entries, &rest[source..], out)
 }
 
-// A count (1), as many entries of program (1) and the start and length (4 each) of its accounts and
-// of its data, the output's length (4) and the source.
+// A count (1), as many entries, the output's length (4) and the source.
 pub(crate) fn write(payload: &[u8], room: &mut [u8], out: &mut [u8]) -> usize {
     if payload.len() < 1 {
         return text::unknown(out);

@@ -14,10 +14,12 @@ use crate::{
 const SEED: u64 = 1;
 
 /// So many cases of a kind: among them are every place of a key, every two
-/// breaches of creation and every prefix of a stream.
+/// breaches of creation, every prefix of a stream, and the named entries, tables
+/// and calls.
 fn cases_of(kind: Kind) -> u64 {
     match kind {
         Kind::Create | Kind::Read | Kind::Judge => 100,
+        Kind::Resolve => 80,
         _ => 64,
     }
 }

@@ -22,9 +22,9 @@ pub fn draw(chance: &mut Chance, kind: Kind, number: u64) -> Case {
         Kind::Create => creation::nth(chance, number),
         Kind::Read => stream::nth(chance, number),
         Kind::Write => writing::draw(chance, number),
-        Kind::Resolve => indexes::draw_resolve(chance),
-        Kind::Lookup => indexes::draw_lookup(chance),
-        Kind::Judge => judging::draw(chance),
+        Kind::Resolve => indexes::nth_resolve(chance, number),
+        Kind::Lookup => indexes::nth_lookup(chance, number),
+        Kind::Judge => judging::nth(chance, number),
     };
     Case { kind, payload }
 }

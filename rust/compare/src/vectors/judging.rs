@@ -2,6 +2,7 @@
 
 use oracle::Oracle;
 
+use super::named;
 use crate::{
     bytes::{hex, Cursor},
     calls::{self, Call},
@@ -18,8 +19,16 @@ pub fn answer(oracle: &Oracle, payload: Cursor) -> Option<(String, &'static str)
     Some((line, numbers::name(number)))
 }
 
+/// The named calls, and after those by chance.
+pub fn nth(chance: &mut Chance, number: u64) -> Vec<u8> {
+    match named::calls().into_iter().nth(number as usize) {
+        Some((_, region, call)) => encode(&region, &call),
+        None => draw(chance),
+    }
+}
+
 /// A region and a call that the program reads.
-pub fn draw(chance: &mut Chance) -> Vec<u8> {
+fn draw(chance: &mut Chance) -> Vec<u8> {
     loop {
         let (region, call) = calls::draw(chance);
         if call.is_readable() {

@@ -5,8 +5,10 @@
 
 mod answers;
 mod draw;
+mod entries;
 mod indexes;
 mod judging;
+mod named;
 mod program;
 mod writing;
 
@@ -40,12 +42,12 @@ pub enum Kind {
     Create = 10,
     /// Bytes: the compact instructions in them.
     Read = 20,
-    /// A count (1), as many entries of program (1) and the start and length (4
+    /// A count (1), as many entries of program (1) and the start and length (8
     /// each) of its accounts and of its data, the output's length (4), and the
     /// source as the rest: the number, the bytes written and the output.
     Write = 21,
-    /// The table's length (4), the table, a program index (1), and account
-    /// indexes as the rest: resolving's number.
+    /// The table's length (4), the table, an entry as above, and its source as
+    /// the rest: resolving's number.
     Resolve = 30,
     /// An index (8) and a table: the key of the record there, or an empty line
     /// where there is none. The published code has no such function, so the

@@ -2,6 +2,7 @@
 
 use oracle::{Instruction, Oracle, Part};
 
+use super::entries;
 use crate::{
     bytes::{hex, Cursor},
     chance::Chance,
@@ -30,7 +31,7 @@ const ROUND: u64 = 64;
 /// which knows neither the limits nor an output that ends.
 pub fn answer(oracle: &Oracle, mut payload: Cursor) -> Option<(String, &'static str)> {
     let [count] = payload.array()?;
-    let entries = (0..count).map(|_| entry(&mut payload));
+    let entries = (0..count).map(|_| entries::parse(&mut payload));
     let list = entries.collect::<Option<Vec<_>>>()?;
     let mut out = vec![UNWRITTEN; payload.length()?];
     let (number, written) = write(oracle, &list, payload.rest(), &mut out);
@@ -38,28 +39,11 @@ pub fn answer(oracle: &Oracle, mut payload: Cursor) -> Option<(String, &'static 
     Some((line, numbers::name(number)))
 }
 
-fn entry(payload: &mut Cursor) -> Option<Instruction> {
-    let [program] = payload.array()?;
-    let mut part = || {
-        Some(Part {
-            at: payload.length()?,
-            len: payload.length()?,
-        })
-    };
-    Some(Instruction {
-        program,
-        accounts: part()?,
-        data: part()?,
-    })
-}
-
 /// The number and the bytes written.
 fn write(oracle: &Oracle, list: &[Instruction], source: &[u8], out: &mut [u8]) -> (u32, usize) {
-    let lies_in = |part: Part| part.at + part.len <= source.len();
     let encodable = |entry: &Instruction| {
-        let (accounts, data) = (entry.accounts, entry.data);
-        let short = accounts.len <= MAX_ACCOUNTS && data.len <= MAX_DATA;
-        short && lies_in(accounts) && lies_in(data)
+        let short = entry.accounts.len <= MAX_ACCOUNTS && entry.data.len <= MAX_DATA;
+        short && entries::lies_in(entry, source.len())
     };
     if list.len() > MAX_INSTRUCTIONS || !list.iter().all(encodable) {
         return (NOT_ENCODABLE, 0);
@@ -93,8 +77,8 @@ pub fn draw(chance: &mut Chance, number: u64) -> Vec<u8> {
     let mut list: Vec<Instruction> = (0..count)
         .map(|_| Instruction {
             program: chance.draw() as u8,
-            accounts: part(chance, source, MAX_ACCOUNTS),
-            data: part(chance, source, 300),
+            accounts: entries::draw_part(chance, source, MAX_ACCOUNTS),
+            data: entries::draw_part(chance, source, 300),
         })
         .collect();
     if let Some(len) = data {
@@ -116,38 +100,16 @@ pub fn draw(chance: &mut Chance, number: u64) -> Vec<u8> {
     encode(&list, room, &source)
 }
 
-/// A part of the source, often at one of its ends.
-fn part(chance: &mut Chance, source: usize, most: usize) -> Part {
-    let len = match chance.below(12) {
-        0 => most,
-        few => few % 7,
-    };
-    let len = len.min(source);
-    let inside = chance.below(source - len + 1);
-    let at = chance.pick(&[0, inside, inside, source - len]);
-    Part { at, len }
-}
-
-/// Makes a part pass the source's end, by one or by far, or an entry's accounts
-/// too many.
+/// Makes a part pass the source's end, or an entry's accounts too many.
 fn spoil(chance: &mut Chance, source: usize, list: &mut [Instruction]) {
-    let far = u32::MAX as usize;
     let entry = chance.one_of(list);
-    let part = match chance.one_in(2) {
-        true => &mut entry.accounts,
-        false => &mut entry.data,
-    };
-    match chance.below(6) {
-        0 | 1 => part.at = source - part.len + 1,
-        2 => part.len = source - part.at + 1,
-        3 => part.at = chance.pick(&[far - part.len, far]),
-        4 => part.len = far,
-        _ => {
-            entry.accounts = Part {
-                at: source.saturating_sub(MAX_ACCOUNTS + 1),
-                len: MAX_ACCOUNTS + 1,
-            }
-        }
+    if chance.one_in(6) {
+        entry.accounts = Part {
+            at: source.saturating_sub(MAX_ACCOUNTS + 1),
+            len: MAX_ACCOUNTS + 1,
+        };
+    } else {
+        entries::pass_the_end(chance, source, entry);
     }
 }
 
@@ -158,16 +120,9 @@ fn size(list: &[Instruction]) -> usize {
 }
 
 fn encode(list: &[Instruction], room: usize, source: &[u8]) -> Vec<u8> {
-    let length = |len: usize| (len as u32).to_le_bytes();
     let mut bytes = vec![list.len() as u8];
-    for entry in list {
-        bytes.push(entry.program);
-        for part in [entry.accounts, entry.data] {
-            bytes.extend(length(part.at));
-            bytes.extend(length(part.len));
-        }
-    }
-    bytes.extend(length(room));
+    bytes.extend(list.iter().flat_map(entries::encode));
+    bytes.extend((room as u32).to_le_bytes());
     bytes.extend(source);
     bytes
 }
@@ -206,8 +161,14 @@ mod tests {
     #[test]
     #[cfg_attr(not(oracle_sources), ignore)]
     fn limits() {
-        let far = u32::MAX as usize;
-        for entry in [[0, 4, 0, 0], [0, 0, 2, 2], [4, 0, 0, 0], [far, far, 0, 0]] {
+        let (far, top) = (u32::MAX as usize, usize::MAX);
+        for entry in [
+            [0, 4, 0, 0],
+            [0, 0, 2, 2],
+            [4, 0, 0, 0],
+            [far, far, 0, 0],
+            [0, 0, top, 2],
+        ] {
             says(&[entry], 1, &[1, 2, 3], "16 0 ee");
         }
         says(&[[0; 4]; 16], 0, &[], "14 0 ");

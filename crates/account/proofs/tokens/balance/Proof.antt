@@ -17,8 +17,8 @@ Inv-loop table vault mint cut total₀ i₀ total i = (i ≤ min (cut .count) 64
 abbrev μ-loop : tie.MeasureT-loop
 μ-loop table vault mint cut total₀ i₀ total i = i
 
-at-most-all-requires : tie.Need-at-most-all-requires Inv-loop μ-loop
-at-most-all-requires c κs = tt
+records-counted-requires : tie.Need-records-counted-requires Inv-loop μ-loop
+records-counted-requires c κs = tt
 
 loop-holds : tie.Need-loop-holds Inv-loop μ-loop
 loop-holds c =
@@ -26,8 +26,8 @@ loop-holds c =
     let s = start .args .table .now in
     let cut = start .args .t2 in
     let long : length (cut .views) ≡ 64 = simp length-map at (start .good .1 .0 .1 .1 .1 .0 .1 .0 .1) in
-    let past : length (recordsAt s cut) ≤ c .at-most-all .result = simp length-records (omega arith) in
-    (omega arith, sym (balance-none _ _ (recordsAt s cut) (c .at-most-all .result) past))
+    let past : length (recordsAt s cut) ≤ c .records-counted .result = simp length-records (omega arith) in
+    (omega arith, sym (balance-none _ _ (recordsAt s cut) (c .records-counted .result) past))
 
 sub-i : tie.Need-sub-i Inv-loop μ-loop
 sub-i c = omega arith
@@ -67,7 +67,7 @@ balance-spec =
     (tie.spec
     Inv-loop
     μ-loop
-    at-most-all-requires
+    records-counted-requires
     loop-holds
     sub-i
     mul-view
