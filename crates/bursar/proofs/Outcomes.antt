@@ -2,12 +2,12 @@
 -- the result, a slice as its bytes, with what each lent slice holds at exit. A parameter that is a slice stands for its bytes at entry.
 -- Written from the contracts in src/ by rust/contracts, which also checks that it is what they say.
 -- Assumes nothing.
-use Prim.Native.Nat.{_+_, min, ℕ}
-use lib.Dec.{leb}
-use lib.ListN.{length}
 use mathlib.Core.Bool.{Bool}
 use mathlib.Core.List.{List, [], map}
 use mathlib.Core.Path.{_≡_, ap₂}
+use Prim.Native.Nat.{_+_, min, ℕ}
+use lib.Dec.{leb}
+use lib.ListN.{length}
 use Rattle.answer.specs.Numbers.{accepts, answer}
 use Rattle.answer.specs.Outcome.{one-outcome}
 use Rattle.answer.specs.Refusable.{refused}

@@ -152,9 +152,12 @@ impl Names {
     fn brought(&self, libraries: &[String]) -> Vec<String> {
         let mut modules: BTreeMap<(usize, &str), Vec<String>> = BTreeMap::new();
         for (ghost, name) in &self.0 {
-            let place = library(&ghost.module).map_or(0, |library| {
-                1 + libraries.iter().take_while(|l| *l != library).count()
-            });
+            let place = match library(&ghost.module) {
+                Some(library) => 3 + libraries.iter().take_while(|l| *l != library).count(),
+                None if ghost.module.starts_with("mathlib.") => 0,
+                None if ghost.module.starts_with("Prim.") => 1,
+                None => 2,
+            };
             let item = if *name == ghost.name {
                 name.clone()
             } else {
