@@ -1,4 +1,5 @@
 pub mod Example
 pub mod OneCall
+pub mod Outcomes
 pub mod Terms
 pub mod Theorems

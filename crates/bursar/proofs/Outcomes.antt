@@ -1,0 +1,403 @@
+-- For each public function of the libraries, that its contract leaves one outcome: whatever two outcomes meet it are the same. An outcome is
+-- the result, a slice as its bytes, with what each lent slice holds at exit. A parameter that is a slice stands for its bytes at entry.
+-- Written from the contracts in src/ by rust/contracts, which also checks that it is what they say.
+-- Assumes nothing.
+use mathlib.Core.Bool.{Bool}
+use mathlib.Core.List.{List, [], map}
+use mathlib.Core.Path.{_≡_, ap₂}
+use Prim.Native.Nat.{_+_, min, ℕ}
+use lib.Dec.{leb}
+use lib.ListN.{length}
+use Rattle.answer.specs.Numbers.{accepts, answer}
+use Rattle.answer.specs.Outcome.{one-outcome}
+use Rattle.answer.specs.Refusable.{refused}
+use Rattle.answer.specs.declared.Answer.{Answer}
+use Rattle.number.specs.Number.{cappedSum, flooredDifference, numberAt, withNumberAt}
+use Rattle.key.specs.Key.{isAmong, keysIn, keysOf, sameKey, withKey}
+use Rattle.key.specs.declared.Keys.{Keys}
+use Rattle.action.specs.Creation.{creation, howOften, storedActions}
+use Rattle.action.specs.Fields.{amountsOf as action-amountsOf, changed, changedAmounts, isRecurring, isToken, keyOf, lastReset, limit as limitOf, maximum as maximumOf, remaining as remainingOf, spent as spentOf, window as windowOf}
+use Rattle.action.specs.Mints.{listedMints}
+use Rattle.action.specs.Region.{cut, dataLength, expired, mostActions}
+use Rattle.action.specs.Views.{actionAt, actionsAt, dataAt, headerAnswer, headerAt, kindsIn, parsedOf, writtenAt}
+use Rattle.action.specs.declared.ActionView.{ActionView}
+use Rattle.action.specs.declared.Change.{Change}
+use Rattle.action.specs.declared.HeaderRead.{HeaderRead}
+use Rattle.action.specs.declared.Parsed.{Parsed as action-Parsed}
+use Rattle.compact.specs.Compact.{outputAfter, reading, writing}
+use Rattle.compact.specs.declared.Entries.{Entries}
+use Rattle.compact.specs.declared.Parsed.{Parsed as compact-Parsed}
+use Rattle.compact.specs.declared.Written.{Written}
+use Rattle.account.specs.Indexes.{keyAmong, keyAt, resolving}
+use Rattle.account.specs.Table.{cutTable}
+use Rattle.account.specs.Tokens.{balance as balanceOf, isCounted, isTokenAccount, mintOf}
+use Rattle.account.specs.Views.{recordAt, recordsAt, tableOf}
+use Rattle.account.specs.declared.RecordView.{RecordView}
+use Rattle.account.specs.declared.Table.{Table}
+use Rattle.limit.specs.Limit.{changeOf, classAnswer, ruleAnswer}
+use Rattle.limit.specs.Views.{chargesAt, settledAt}
+use Rattle.limit.specs.declared.Amounts.{Amounts}
+use Rattle.judge.specs.Freeze.{allFrozen}
+use Rattle.judge.specs.Judge.{judged, regionAfter}
+use Rattle.judge.specs.Programs.{programsAnswer}
+use Rattle.judge.specs.Views.{amountFrom, amountsOf as judge-amountsOf, programsIn}
+use Rattle.frame.specs.Frame.{callOf, noTally, openingOf, partIn, partsToRead, tallied}
+use Rattle.frame.specs.declared.Frame.{Frame}
+use Rattle.frame.specs.declared.Opening.{Opening}
+use Rattle.frame.specs.declared.Part.{Part}
+use Rattle.frame.specs.declared.Tally.{Tally}
+
+abbrev pub OneOutcome {ℓ} : {A : Type ℓ} → (A → Type ℓ) → Type ℓ
+OneOutcome {A = A} Meets = (x y : A) → Meets x → Meets y → x ≡ y
+
+-- equations for the parts of an outcome are one for the whole
+both {ℓ} : {A B : Type ℓ} {o : A × B} {a : A} {b : B} → (o .0 ≡ a) × (o .1 ≡ b) → o ≡ (a, b)
+both (p, q) = ap₂ (λ a b. (a, b)) p q
+
+-- ---- answer
+
+-- answer::Answer::of
+pub answer-Answer-of : (number : ℕ)
+    → OneOutcome (λ (r : Answer). r ≡ answer number)
+answer-Answer-of _ _ _ p q = one-outcome p q
+
+-- answer::Answer::accepts
+pub answer-Answer-accepts : (self : Answer)
+    → OneOutcome (λ (r : Bool). r ≡ accepts self)
+answer-Answer-accepts _ _ _ p q = one-outcome p q
+
+-- ---- number
+
+-- number::read_u16
+pub number-read-u16 : (bytes : List ℕ) (at : ℕ)
+    → OneOutcome (λ (r : ℕ). r ≡ numberAt 2 bytes at)
+number-read-u16 _ _ _ _ p q = one-outcome p q
+
+-- number::read_u32
+pub number-read-u32 : (bytes : List ℕ) (at : ℕ)
+    → OneOutcome (λ (r : ℕ). r ≡ numberAt 4 bytes at)
+number-read-u32 _ _ _ _ p q = one-outcome p q
+
+-- number::read_u64
+pub number-read-u64 : (bytes : List ℕ) (at : ℕ)
+    → OneOutcome (λ (r : ℕ). r ≡ numberAt 8 bytes at)
+number-read-u64 _ _ _ _ p q = one-outcome p q
+
+-- number::write_u64
+pub number-write-u64 : (bytes : List ℕ) (at value : ℕ)
+    → OneOutcome (λ (o : Bool × List ℕ). (o .0 ≡ leb (at + 8) (length bytes)) × (o .1 ≡ withNumberAt 8 bytes at value))
+number-write-u64 _ _ _ _ _ p q = one-outcome (both p) (both q)
+
+-- number::capped_sum
+pub number-capped-sum : (a b : ℕ)
+    → OneOutcome (λ (r : ℕ). r ≡ cappedSum a b)
+number-capped-sum _ _ _ _ p q = one-outcome p q
+
+-- number::floored_difference
+pub number-floored-difference : (a b : ℕ)
+    → OneOutcome (λ (r : ℕ). r ≡ flooredDifference a b)
+number-floored-difference _ _ _ _ p q = one-outcome p q
+
+-- ---- key
+
+-- key::same_key
+pub key-same-key : (a b : List ℕ)
+    → OneOutcome (λ (r : Bool). r ≡ sameKey a b)
+key-same-key _ _ _ _ p q = one-outcome p q
+
+-- key::Keys::none
+pub key-Keys-none : OneOutcome (λ (r : Keys). r ≡ keysOf [])
+key-Keys-none _ _ p q = one-outcome p q
+
+-- key::Keys::holds
+pub key-Keys-holds : (self : Keys) (key : List ℕ)
+    → OneOutcome (λ (r : Bool). r ≡ isAmong key (keysIn self))
+key-Keys-holds _ _ _ _ p q = one-outcome p q
+
+-- key::Keys::with
+pub key-Keys-with : (self : Keys) (key : List ℕ)
+    → OneOutcome (λ (r : Keys). r ≡ withKey self key)
+key-Keys-with _ _ _ _ p q = one-outcome p q
+
+-- ---- action
+
+-- action::fields::is_token
+pub action-fields-is-token : (kind : ℕ)
+    → OneOutcome (λ (r : Bool). r ≡ isToken kind)
+action-fields-is-token _ _ _ p q = one-outcome p q
+
+-- action::fields::is_recurring
+pub action-fields-is-recurring : (kind : ℕ)
+    → OneOutcome (λ (r : Bool). r ≡ isRecurring kind)
+action-fields-is-recurring _ _ _ p q = one-outcome p q
+
+-- action::fields::is_expired
+pub action-fields-is-expired : (expires slot : ℕ)
+    → OneOutcome (λ (r : Bool). r ≡ expired expires slot)
+action-fields-is-expired _ _ _ _ p q = one-outcome p q
+
+-- action::fields::data_of
+pub action-fields-data-of : (region : List ℕ) (view : ActionView)
+    → OneOutcome (λ (r : List ℕ). r ≡ dataAt region view)
+action-fields-data-of _ _ _ _ p q = one-outcome p q
+
+-- action::fields::key_of
+pub action-fields-key-of : (region : List ℕ) (view : ActionView)
+    → OneOutcome (λ (r : List ℕ). r ≡ keyOf (actionAt region view))
+action-fields-key-of _ _ _ _ p q = one-outcome p q
+
+-- action::fields::amounts_of
+pub action-fields-amounts-of : (region : List ℕ) (view : ActionView)
+    → OneOutcome (λ (r : List ℕ). r ≡ action-amountsOf (actionAt region view))
+action-fields-amounts-of _ _ _ _ p q = one-outcome p q
+
+-- action::fields::remaining
+pub action-fields-remaining : (amounts : List ℕ)
+    → OneOutcome (λ (r : ℕ). r ≡ remainingOf amounts)
+action-fields-remaining _ _ _ p q = one-outcome p q
+
+-- action::fields::maximum
+pub action-fields-maximum : (amounts : List ℕ)
+    → OneOutcome (λ (r : ℕ). r ≡ maximumOf amounts)
+action-fields-maximum _ _ _ p q = one-outcome p q
+
+-- action::fields::limit
+pub action-fields-limit : (amounts : List ℕ)
+    → OneOutcome (λ (r : ℕ). r ≡ limitOf amounts)
+action-fields-limit _ _ _ p q = one-outcome p q
+
+-- action::fields::spent
+pub action-fields-spent : (amounts : List ℕ)
+    → OneOutcome (λ (r : ℕ). r ≡ spentOf amounts)
+action-fields-spent _ _ _ p q = one-outcome p q
+
+-- action::fields::window
+pub action-fields-window : (amounts : List ℕ)
+    → OneOutcome (λ (r : ℕ). r ≡ windowOf amounts)
+action-fields-window _ _ _ p q = one-outcome p q
+
+-- action::fields::last_reset
+pub action-fields-last-reset : (amounts : List ℕ)
+    → OneOutcome (λ (r : ℕ). r ≡ lastReset amounts)
+action-fields-last-reset _ _ _ p q = one-outcome p q
+
+-- action::fields::write_change
+pub action-fields-write-change : (amounts : List ℕ) (change : Change)
+    → OneOutcome (λ (o : List ℕ). o ≡ changedAmounts change amounts)
+action-fields-write-change _ _ _ _ p q = one-outcome p q
+
+-- action::fields::apply_change
+pub action-fields-apply-change : (region : List ℕ) (view : ActionView) (change : Change)
+    → OneOutcome (λ (o : List ℕ). o ≡ writtenAt region view (changed change (actionAt region view)))
+action-fields-apply-change _ _ _ _ _ p q = one-outcome p q
+
+-- action::form::counted
+pub action-form-counted : (parsed : action-Parsed)
+    → OneOutcome (λ (r : ℕ). r ≡ min (parsed .count) 16)
+action-form-counted _ _ _ p q = one-outcome p q
+
+-- action::form::how_often
+pub action-form-how-often : (parsed : action-Parsed) (kind : ℕ)
+    → OneOutcome (λ (r : ℕ). r ≡ howOften kind (kindsIn parsed))
+action-form-how-often _ _ _ _ p q = one-outcome p q
+
+-- action::form::validate_actions_buffer
+pub action-form-validate-actions-buffer : (region : List ℕ)
+    → OneOutcome (λ (r : Answer). r ≡ creation region)
+action-form-validate-actions-buffer _ _ _ p q = one-outcome p q
+
+-- action::form::stored_actions
+pub action-form-stored-actions : (region : List ℕ)
+    → OneOutcome (λ (r : action-Parsed). r ≡ parsedOf (storedActions region))
+action-form-stored-actions _ _ _ p q = one-outcome p q
+
+-- action::mints::listed_mints
+pub action-mints-listed-mints : (region : List ℕ) (parsed : action-Parsed)
+    → OneOutcome (λ (r : Keys). r ≡ listedMints (actionsAt region parsed))
+action-mints-listed-mints _ _ _ _ p q = one-outcome p q
+
+-- action::parse::expected_data_size
+pub action-parse-expected-data-size : (code : ℕ)
+    → OneOutcome (λ (r : ℕ). r ≡ dataLength code)
+action-parse-expected-data-size _ _ _ p q = one-outcome p q
+
+-- action::parse::read_header
+pub action-parse-read-header : (region : List ℕ) (at : ℕ)
+    → OneOutcome (λ (r : HeaderRead). r ≡ headerAt region at)
+action-parse-read-header _ _ _ _ p q = one-outcome p q
+
+-- action::parse::header_answer
+pub action-parse-header-answer : (read : HeaderRead)
+    → OneOutcome (λ (r : Answer). r ≡ headerAnswer read)
+action-parse-header-answer _ _ _ p q = one-outcome p q
+
+-- action::parse::Parsed::refused
+pub action-parse-Parsed-refused : (answer : Answer)
+    → OneOutcome (λ (r : action-Parsed). r ≡ parsedOf (refused answer))
+action-parse-Parsed-refused _ _ _ p q = one-outcome p q
+
+-- action::parse::parse_actions
+pub action-parse-parse-actions : (region : List ℕ)
+    → OneOutcome (λ (r : action-Parsed). r ≡ parsedOf (cut mostActions region))
+action-parse-parse-actions _ _ _ p q = one-outcome p q
+
+-- ---- compact
+
+-- compact::parse_compact_instructions
+pub compact-parse-compact-instructions : (bytes : List ℕ)
+    → OneOutcome (λ (r : compact-Parsed). r ≡ reading bytes)
+compact-parse-compact-instructions _ _ _ p q = one-outcome p q
+
+-- compact::serialize_compact_instructions
+pub compact-serialize-compact-instructions : (entries : Entries) (source out : List ℕ)
+    → OneOutcome (λ (o : Written × List ℕ). (o .0 ≡ writing entries source out) × (o .1 ≡ outputAfter entries source out))
+compact-serialize-compact-instructions _ _ _ _ _ p q = one-outcome (both p) (both q)
+
+-- ---- account
+
+-- account::fields::record_key
+pub account-fields-record-key : (table : List ℕ) (view : RecordView)
+    → OneOutcome (λ (r : List ℕ). r ≡ recordAt table view .key)
+account-fields-record-key _ _ _ _ p q = one-outcome p q
+
+-- account::fields::record_owner
+pub account-fields-record-owner : (table : List ℕ) (view : RecordView)
+    → OneOutcome (λ (r : List ℕ). r ≡ recordAt table view .owner)
+account-fields-record-owner _ _ _ _ p q = one-outcome p q
+
+-- account::fields::record_payload
+pub account-fields-record-payload : (table : List ℕ) (view : RecordView)
+    → OneOutcome (λ (r : List ℕ). r ≡ recordAt table view .payload)
+account-fields-record-payload _ _ _ _ p q = one-outcome p q
+
+-- account::indexes::key_at
+pub account-indexes-key-at : (table : List ℕ) (cut : Table) (index : ℕ)
+    → OneOutcome (λ (r : List ℕ). r ≡ keyAmong (recordsAt table cut) index)
+account-indexes-key-at _ _ _ _ _ p q = one-outcome p q
+
+-- account::indexes::lookup
+pub account-indexes-lookup : (table : List ℕ) (index : ℕ)
+    → OneOutcome (λ (r : List ℕ). r ≡ keyAt table index)
+account-indexes-lookup _ _ _ _ p q = one-outcome p q
+
+-- account::indexes::resolve
+pub account-indexes-resolve : (table : List ℕ) (program : ℕ) (accounts : List ℕ)
+    → OneOutcome (λ (r : Answer). r ≡ resolving table program accounts)
+account-indexes-resolve _ _ _ _ _ p q = one-outcome p q
+
+-- account::parse::cut_table
+pub account-parse-cut-table : (table : List ℕ)
+    → OneOutcome (λ (r : Table). r ≡ tableOf (cutTable table))
+account-parse-cut-table _ _ _ p q = one-outcome p q
+
+-- account::tokens::is_token_account
+pub account-tokens-is-token-account : (table : List ℕ) (view : RecordView)
+    → OneOutcome (λ (r : Bool). r ≡ isTokenAccount (recordAt table view))
+account-tokens-is-token-account _ _ _ _ p q = one-outcome p q
+
+-- account::tokens::mint_of
+pub account-tokens-mint-of : (table : List ℕ) (view : RecordView)
+    → OneOutcome (λ (r : List ℕ). r ≡ mintOf (recordAt table view))
+account-tokens-mint-of _ _ _ _ p q = one-outcome p q
+
+-- account::tokens::is_counted
+pub account-tokens-is-counted : (table : List ℕ) (view : RecordView) (vault : List ℕ)
+    → OneOutcome (λ (r : Bool). r ≡ isCounted vault (recordAt table view))
+account-tokens-is-counted _ _ _ _ _ p q = one-outcome p q
+
+-- account::tokens::balance
+pub account-tokens-balance : (table : List ℕ) (cut : Table) (vault mint : List ℕ)
+    → OneOutcome (λ (r : ℕ). r ≡ balanceOf vault mint (recordsAt table cut))
+account-tokens-balance _ _ _ _ _ _ p q = one-outcome p q
+
+-- ---- limit
+
+-- limit::rule_answer
+pub limit-rule-answer : (region : List ℕ) (view : ActionView) (slot amount : ℕ)
+    → OneOutcome (λ (r : Answer). r ≡ ruleAnswer slot (record { act = actionAt region view; amount = amount }))
+limit-rule-answer _ _ _ _ _ _ p q = one-outcome p q
+
+-- limit::class_answer
+pub limit-class-answer : (region : List ℕ) (parsed : action-Parsed) (amounts : Amounts) (tokens : Bool) (slot : ℕ)
+    → OneOutcome (λ (r : Answer). r ≡ classAnswer tokens slot (chargesAt region parsed amounts))
+limit-class-answer _ _ _ _ _ _ _ p q = one-outcome p q
+
+-- limit::change_of
+pub limit-change-of : (region : List ℕ) (view : ActionView) (slot amount : ℕ)
+    → OneOutcome (λ (r : Change). r ≡ changeOf slot (record { act = actionAt region view; amount = amount }))
+limit-change-of _ _ _ _ _ _ p q = one-outcome p q
+
+-- limit::settle
+pub limit-settle : (region : List ℕ) (parsed : action-Parsed) (amounts : Amounts) (slot : ℕ)
+    → OneOutcome (λ (o : List ℕ). o ≡ settledAt slot parsed amounts region)
+limit-settle _ _ _ _ _ _ p q = one-outcome p q
+
+-- ---- judge
+
+-- judge::amounts::amounts
+pub judge-amounts-amounts : (region : List ℕ) (parsed : action-Parsed) (before : List ℕ) («before_cut» : Table) (after : List ℕ) («after_cut» : Table) (vault : List ℕ) (sol gross : ℕ)
+    → OneOutcome (λ (r : Amounts). r ≡ judge-amountsOf (map (amountFrom vault (recordsAt before «before_cut») (recordsAt after «after_cut») sol gross) (actionsAt region parsed)))
+judge-amounts-amounts _ _ _ _ _ _ _ _ _ _ _ p q = one-outcome p q
+
+-- judge::call::judge
+pub judge-call-judge : (region before after instructions vault : List ℕ) (slot «lamports_before» «lamports_after» gross : ℕ)
+    → OneOutcome (λ (o : Answer × List ℕ). (o .0 ≡ judged region (record { before = before; after = after; instructions = instructions; vault = vault; slot = slot; lamportsBefore = «lamports_before»; lamportsAfter = «lamports_after»; gross = gross })) × (o .1 ≡ regionAfter region (record { before = before; after = after; instructions = instructions; vault = vault; slot = slot; lamportsBefore = «lamports_before»; lamportsAfter = «lamports_after»; gross = gross })))
+judge-call-judge _ _ _ _ _ _ _ _ _ _ _ p q = one-outcome (both p) (both q)
+
+-- judge::freeze::verify_token_authorities_unchanged
+pub judge-freeze-verify-token-authorities-unchanged : (before : List ℕ) («before_cut» : Table) (after : List ℕ) («after_cut» : Table) (vault : List ℕ) (mints : Keys)
+    → OneOutcome (λ (r : Bool). r ≡ allFrozen vault (λ (mint : List ℕ). isAmong mint (keysIn mints)) (recordsAt after «after_cut») (recordsAt before «before_cut»))
+judge-freeze-verify-token-authorities-unchanged _ _ _ _ _ _ _ _ p q = one-outcome p q
+
+-- judge::programs::evaluate_pre_actions
+pub judge-programs-evaluate-pre-actions : (region : List ℕ) (parsed : action-Parsed) (table : List ℕ) (cut : Table) (entries : Entries) (slot : ℕ)
+    → OneOutcome (λ (r : Answer). r ≡ programsAnswer slot (actionsAt region parsed) (recordsAt table cut) (programsIn entries))
+judge-programs-evaluate-pre-actions _ _ _ _ _ _ _ _ p q = one-outcome p q
+
+-- ---- thimbleford
+
+-- thimbleford::thimbleford_create
+pub thimbleford-thimbleford-create : (region : List ℕ)
+    → OneOutcome (λ (r : ℕ). r ≡ creation region .number)
+thimbleford-thimbleford-create _ _ _ p q = one-outcome p q
+
+-- thimbleford::thimbleford_judge
+pub thimbleford-thimbleford-judge : (region before after instructions vault : List ℕ) (slot «lamports_before» «lamports_after» gross : ℕ)
+    → OneOutcome (λ (o : ℕ × List ℕ). (o .0 ≡ judged region (record { before = before; after = after; instructions = instructions; vault = vault; slot = slot; lamportsBefore = «lamports_before»; lamportsAfter = «lamports_after»; gross = gross }) .number) × (o .1 ≡ regionAfter region (record { before = before; after = after; instructions = instructions; vault = vault; slot = slot; lamportsBefore = «lamports_before»; lamportsAfter = «lamports_after»; gross = gross })))
+thimbleford-thimbleford-judge _ _ _ _ _ _ _ _ _ _ _ p q = one-outcome (both p) (both q)
+
+-- ---- frame
+
+-- frame::part_of
+pub frame-part-of : (bytes : List ℕ) (part : Part)
+    → OneOutcome (λ (r : List ℕ). r ≡ partIn bytes part)
+frame-part-of _ _ _ _ p q = one-outcome p q
+
+-- frame::region_length
+pub frame-region-length : (bytes : List ℕ)
+    → OneOutcome (λ (r : ℕ). r ≡ numberAt 2 bytes 0)
+frame-region-length _ _ _ p q = one-outcome p q
+
+-- frame::read_opening
+pub frame-read-opening : (bytes : List ℕ)
+    → OneOutcome (λ (r : Opening). r ≡ openingOf bytes)
+frame-read-opening _ _ _ p q = one-outcome p q
+
+-- frame::parts_to_read
+pub frame-parts-to-read : (bytes : List ℕ)
+    → OneOutcome (λ (r : ℕ). r ≡ partsToRead bytes)
+frame-parts-to-read _ _ _ p q = one-outcome p q
+
+-- frame::read_call
+pub frame-read-call : (bytes : List ℕ)
+    → OneOutcome (λ (r : Frame). r ≡ callOf bytes)
+frame-read-call _ _ _ p q = one-outcome p q
+
+-- frame::Tally::none
+pub frame-Tally-none : OneOutcome (λ (r : Tally). r ≡ noTally)
+frame-Tally-none _ _ p q = one-outcome p q
+
+-- frame::Tally::with
+pub frame-Tally-with : (self : Tally) («is_accepted» : Bool)
+    → OneOutcome (λ (r : Tally). r ≡ tallied self «is_accepted»)
+frame-Tally-with _ _ _ _ p q = one-outcome p q
