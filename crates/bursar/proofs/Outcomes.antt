@@ -24,9 +24,11 @@ use Rattle.action.specs.declared.ActionView.{ActionView}
 use Rattle.action.specs.declared.Change.{Change}
 use Rattle.action.specs.declared.HeaderRead.{HeaderRead}
 use Rattle.action.specs.declared.Parsed.{Parsed as action-Parsed}
-use Rattle.compact.specs.Compact.{outputAfter, reading, writing}
+use Rattle.compact.specs.Compact.{outputAfter, reading, within, writing}
 use Rattle.compact.specs.declared.Entries.{Entries}
+use Rattle.compact.specs.declared.Entry.{Entry}
 use Rattle.compact.specs.declared.Parsed.{Parsed as compact-Parsed}
+use Rattle.compact.specs.declared.Range.{Range}
 use Rattle.compact.specs.declared.Written.{Written}
 use Rattle.account.specs.Indexes.{keyAmong, keyAt, resolving}
 use Rattle.account.specs.Table.{cutTable}
@@ -248,6 +250,11 @@ pub compact-parse-compact-instructions : (bytes : List ℕ)
     → OneOutcome (λ (r : compact-Parsed). r ≡ reading bytes)
 compact-parse-compact-instructions _ _ _ p q = one-outcome p q
 
+-- compact::within
+pub compact-within : (source : List ℕ) (range : Range)
+    → OneOutcome (λ (r : Bool). r ≡ within source range)
+compact-within _ _ _ _ p q = one-outcome p q
+
 -- compact::serialize_compact_instructions
 pub compact-serialize-compact-instructions : (entries : Entries) (source out : List ℕ)
     → OneOutcome (λ (o : Written × List ℕ). (o .0 ≡ writing entries source out) × (o .1 ≡ outputAfter entries source out))
@@ -281,14 +288,19 @@ pub account-indexes-lookup : (table : List ℕ) (index : ℕ)
 account-indexes-lookup _ _ _ _ p q = one-outcome p q
 
 -- account::indexes::resolve
-pub account-indexes-resolve : (table : List ℕ) (program : ℕ) (accounts : List ℕ)
-    → OneOutcome (λ (r : Answer). r ≡ resolving table program accounts)
+pub account-indexes-resolve : (table : List ℕ) (entry : Entry) (source : List ℕ)
+    → OneOutcome (λ (r : Answer). r ≡ resolving table entry source)
 account-indexes-resolve _ _ _ _ _ p q = one-outcome p q
 
 -- account::parse::cut_table
 pub account-parse-cut-table : (table : List ℕ)
     → OneOutcome (λ (r : Table). r ≡ tableOf (cutTable table))
 account-parse-cut-table _ _ _ p q = one-outcome p q
+
+-- account::parse::records_counted
+pub account-parse-records-counted : (count : ℕ)
+    → OneOutcome (λ (r : ℕ). r ≡ min count 64)
+account-parse-records-counted _ _ _ p q = one-outcome p q
 
 -- account::tokens::is_token_account
 pub account-tokens-is-token-account : (table : List ℕ) (view : RecordView)
