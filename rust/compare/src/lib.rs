@@ -10,6 +10,7 @@
 //! it can; [`NOT_RUN`] is the line that says so.
 
 pub mod aim;
+pub mod bench;
 pub mod breach;
 pub mod bytes;
 pub mod calls;
@@ -18,11 +19,14 @@ pub mod creation;
 pub mod damage;
 pub mod numbers;
 pub mod program;
+pub mod progress;
 pub mod record;
 pub mod region;
 pub mod replay;
 pub mod report;
 pub mod runner;
+pub mod runs;
+pub mod shrink;
 pub mod stream;
 pub mod subjects;
 pub mod table;
