@@ -127,8 +127,11 @@ fn accepted() -> (Vec<u8>, Inputs) {
         .unwrap()
 }
 
-/// The parts of a region and a call in turn.
-const PARTS: [for<'a> fn(&'a mut Vec<u8>, &'a mut Inputs) -> &'a mut Vec<u8>; 5] = [
+/// One part of a region and a call.
+type Part = for<'a> fn(&'a mut Vec<u8>, &'a mut Inputs) -> &'a mut Vec<u8>;
+
+/// All of them in turn.
+const PARTS: [Part; 5] = [
     |region, _| region,
     |_, inputs| &mut inputs.before,
     |_, inputs| &mut inputs.after,
