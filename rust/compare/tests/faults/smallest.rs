@@ -8,7 +8,7 @@ use compare::{
     runner::{parting, RUN},
     runs::{self, Run},
     stream,
-    subjects::Subject,
+    subjects::{Published, Subject},
     table::{self, TOKEN_ACCOUNT},
 };
 
@@ -30,6 +30,16 @@ fn smallest(judge: Judge) -> Run {
     again
 }
 
+/// The published code, but a number is taken for acceptance.
+fn taken_for_0(right: &mut Published, region: &mut [u8], call: &Call, number: u32) -> u32 {
+    let answer = right.judge(region, call);
+    if answer == number {
+        0
+    } else {
+        answer
+    }
+}
+
 /// Its actions, its one call, and the records of that call's tables.
 fn parts(run: &Run) -> (Vec<Action>, &Call, [usize; 2]) {
     let actions = region::cut(&run.region).expect("the fault is in a stored region");
@@ -44,14 +54,7 @@ fn parts(run: &Run) -> (Vec<Action>, &Call, [usize; 2]) {
 #[test]
 #[cfg_attr(not(oracle_sources), ignore)]
 fn of_a_limit_that_lets_one_more_pass() {
-    let run = smallest(|right, region, call| {
-        let answer = right.judge(region, call);
-        if answer == 7 {
-            0
-        } else {
-            answer
-        }
-    });
+    let run = smallest(|right, region, call| taken_for_0(right, region, call, 7));
     let (actions, call, records) = parts(&run);
     let limit = Action {
         expires_at: 0,
@@ -82,14 +85,7 @@ fn of_a_reset_at_the_window_itself() {
 #[test]
 #[cfg_attr(not(oracle_sources), ignore)]
 fn of_a_freeze_that_is_not_asked() {
-    let run = smallest(|right, region, call| {
-        let answer = right.judge(region, call);
-        if answer == 12 {
-            0
-        } else {
-            answer
-        }
-    });
+    let run = smallest(|right, region, call| taken_for_0(right, region, call, 12));
     let (actions, call, [before, after]) = parts(&run);
     assert_eq!((actions.len(), before), (1, 1));
     assert!(after <= 1, "{run}");
@@ -100,18 +96,24 @@ fn of_a_freeze_that_is_not_asked() {
 #[test]
 #[cfg_attr(not(oracle_sources), ignore)]
 fn of_a_list_that_is_not_asked() {
-    let run = smallest(|right, region, call| {
-        let answer = right.judge(region, call);
-        if answer == 4 {
-            0
-        } else {
-            answer
-        }
-    });
+    let run = smallest(|right, region, call| taken_for_0(right, region, call, 4));
     let (actions, call, records) = parts(&run);
     assert_eq!((actions.len(), records), (1, [1, 0]));
     assert_eq!(stream::decode(&call.instructions).unwrap().len(), 1);
     assert_eq!(call.instructions.len(), 5);
+}
+
+/// What is not made of actions or records is cut byte by byte.
+#[test]
+#[cfg_attr(not(oracle_sources), ignore)]
+fn of_damage_that_is_not_seen() {
+    let run = smallest(|right, region, call| taken_for_0(right, region, call, 15));
+    assert_eq!(run.region, [0]);
+    let run = smallest(|right, region, call| taken_for_0(right, region, call, 13));
+    let tables = [&run.calls[0].before, &run.calls[0].after];
+    assert!(tables.iter().any(|table| table.is_empty()), "{run}");
+    assert!(tables.iter().all(|table| table.len() <= 2), "{run}");
+    assert_eq!(run.region, []);
 }
 
 /// A run is cut to the call at which the fault shows.
