@@ -44,7 +44,7 @@ impl Spread {
 impl fmt::Display for Spread {
     fn fmt(&self, f: &mut fmt::Formatter) -> fmt::Result {
         let [low, median, high] = self.0;
-        write!(f, "{median:.2} ({low:.2}-{high:.2})")
+        write!(f, "{median:.2} ({low:.2} to {high:.2})")
     }
 }
 
@@ -55,7 +55,7 @@ mod tests {
     #[test]
     fn the_middle_and_the_quarters() {
         let spread = Spread::of(vec![5.0, 1.0, 4.0, 2.0, 3.0]);
-        assert_eq!(spread.to_string(), "3.00 (2.00-4.00)");
+        assert_eq!(spread.to_string(), "3.00 (2.00 to 4.00)");
         assert_eq!(Spread::of_ratios(&[6.0], &[3.0]).median(), 2.0);
     }
 }

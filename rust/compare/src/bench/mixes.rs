@@ -69,8 +69,17 @@ pub fn growth(seed: u64) -> Vec<Mix> {
     let mints = [4, 6, 12].map(|mints| (64, 12, mints));
     let mix = |(records, limits, mints): (usize, usize, usize)| {
         let mints = mints.min(limits);
+        let many = |count: usize, what: &str| match count {
+            1 => format!("1 {what}"),
+            _ => format!("{count} {what}s"),
+        };
         Mix {
-            name: format!("{records} records, {limits} limits, {mints} mints"),
+            name: format!(
+                "{}, {}, {}",
+                many(records, "record"),
+                many(limits, "limit"),
+                many(mints, "mint"),
+            ),
             calls: made(seed, Shape::limits(records, limits, mints)),
         }
     };

@@ -28,33 +28,45 @@ use mixes::{Mix, Timed};
 /// So many regions are created.
 const REGIONS: u64 = 128;
 
-/// Times every mix, and creation, and writes a line for each.
-pub fn run(oracle: &Oracle, seed: u64, out: &mut dyn Write) -> io::Result<()> {
-    writeln!(
-        out,
-        "Nanoseconds of one case through the boundary, and how many times as long the Rust takes:"
-    )?;
-    writeln!(out, "on records cut beforehand, and with the cutting of the same bytes. Last, how many times as")?;
-    writeln!(
-        out,
-        "long as a pass over both tables the boundary takes. Medians, with the quartiles.\n"
-    )?;
-    writeln!(
-        out,
-        "{:<34}{:>8}  {:<18}  {:<18}  {:<18}",
-        "mix", "ns", "Rust, cut", "Rust, from bytes", "over the floor"
-    )?;
-    for mix in mixes::mixes(oracle, seed)
-        .iter()
-        .chain(&mixes::growth(seed))
-    {
-        judged(oracle, mix, out)?;
-    }
-    created(oracle, seed, out)
+const HEAD: &str = "\
+Cost: the boundary's time for a case, in that of a call on 1 record with 1 limit.
+Rust: its time on the same cases in the boundary's, on records that were cut
+before, and with cutting the same bytes. Floor: the boundary's time in that of
+one pass over the bytes of both tables. Medians, and the quartiles.
+
+| mix | cost | Rust, cut | Rust, from bytes | floor |
+|---|---|---|---|---|
+";
+
+/// What was timed of a mix.
+struct Figures {
+    name: String,
+    /// Nanoseconds of one case.
+    nanoseconds: f64,
+    cut: Spread,
+    /// What only a judged call has.
+    tables: Option<[Spread; 2]>,
 }
 
-/// The line of a mix of judged calls.
-fn judged(oracle: &Oracle, mix: &Mix, out: &mut dyn Write) -> io::Result<()> {
+/// Times every mix, and creation, and writes a row of a table for each.
+pub fn run(oracle: &Oracle, seed: u64, out: &mut dyn Write) -> io::Result<()> {
+    let growth = mixes::growth(seed);
+    let unit = judged(oracle, &growth[0]).nanoseconds;
+    write!(out, "{HEAD}")?;
+    let mixes = mixes::mixes(oracle, seed);
+    let judged = mixes.iter().chain(&growth).map(|mix| judged(oracle, mix));
+    for figures in judged.chain([created(oracle, seed)]) {
+        let cost = figures.nanoseconds / unit;
+        write!(out, "| {} | {cost:.2} | {} |", figures.name, figures.cut)?;
+        match figures.tables {
+            Some([bytes, floor]) => writeln!(out, " {bytes} | {floor} |")?,
+            None => writeln!(out, " | |")?,
+        }
+    }
+    writeln!(out, "\nA cost of 1 was {unit:.0} nanoseconds.")
+}
+
+fn judged(oracle: &Oracle, mix: &Mix) -> Figures {
     let boundary = |region: &mut [u8], timed: &Timed| Archive.judge(region, &timed.call);
     let cut = |region: &mut [u8], timed: &Timed| {
         published(oracle, region, timed, &timed.before, &timed.after)
@@ -81,16 +93,15 @@ fn judged(oracle: &Oracle, mix: &Mix, out: &mut dyn Write) -> io::Result<()> {
         time([&|| all(&boundary), &|| all(&cut), &|| all(&bytes), &|| {
             all(&floor)
         }]);
-    let over_floor = Spread::of_ratios(&boundary, &floor);
-    writeln!(
-        out,
-        "{:<34}{:>8.0}  {:<18}  {:<18}  {:<18}",
-        mix.name,
-        Spread::of(boundary.clone()).median() / mix.calls.len() as f64,
-        Spread::of_ratios(&cut, &boundary).to_string(),
-        Spread::of_ratios(&bytes, &boundary).to_string(),
-        over_floor.to_string(),
-    )
+    Figures {
+        name: mix.name.clone(),
+        cut: Spread::of_ratios(&cut, &boundary),
+        tables: Some([
+            Spread::of_ratios(&bytes, &boundary),
+            Spread::of_ratios(&boundary, &floor),
+        ]),
+        nanoseconds: Spread::of(boundary).median() / mix.calls.len() as f64,
+    }
 }
 
 fn published(
@@ -114,8 +125,8 @@ fn published(
     oracle.judge(region, &call)
 }
 
-/// The line of creation, which takes the same bytes on both sides.
-fn created(oracle: &Oracle, seed: u64, out: &mut dyn Write) -> io::Result<()> {
+/// Creation takes the same bytes on both sides.
+fn created(oracle: &Oracle, seed: u64) -> Figures {
     let regions: Vec<_> = (0..REGIONS)
         .map(|case| creation::draw(&mut Chance::of_case(seed, CREATE, case)))
         .collect();
@@ -127,11 +138,10 @@ fn created(oracle: &Oracle, seed: u64, out: &mut dyn Write) -> io::Result<()> {
     let [boundary, rust] = time([&|| all(&|region| Archive.create(region)), &|| {
         all(&|region| oracle.create(region))
     }]);
-    writeln!(
-        out,
-        "{:<34}{:>8.0}  {:<18}",
-        "creation, all answers",
-        Spread::of(boundary.clone()).median() / REGIONS as f64,
-        Spread::of_ratios(&rust, &boundary).to_string(),
-    )
+    Figures {
+        name: "creation, all answers".to_string(),
+        cut: Spread::of_ratios(&rust, &boundary),
+        tables: None,
+        nanoseconds: Spread::of(boundary).median() / REGIONS as f64,
+    }
 }
