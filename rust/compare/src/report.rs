@@ -132,7 +132,7 @@ impl fmt::Display for Difference {
         } = self;
         writeln!(f, "difference: {function}, seed {seed}, case {case}")?;
         for (name, value) in parts {
-            writeln!(f, "  {name:<22}{value}")?;
+            writeln!(f, "  {name:<24}{value}")?;
         }
         Ok(())
     }

@@ -171,6 +171,6 @@ impl Parting {
 impl fmt::Display for Parting {
     fn fmt(&self, f: &mut fmt::Formatter) -> fmt::Result {
         let mut parts = self.parts().into_iter();
-        parts.try_for_each(|(name, value)| writeln!(f, "  {name:<22}{value}"))
+        parts.try_for_each(|(name, value)| writeln!(f, "  {name:<24}{value}"))
     }
 }
