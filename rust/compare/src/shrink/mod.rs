@@ -9,15 +9,11 @@ use crate::runs::Run;
 /// The smallest run that is found from one on which `holds` is true: in each
 /// step one thing less, or a lower number, as long as it stays true.
 pub fn smallest(mut run: Run, holds: &mut dyn FnMut(&Run) -> bool) -> Run {
-    loop {
-        let mut candidates = smaller(&run);
-        let Some(found) = candidates.find(|candidate| holds(candidate)) else {
-            drop(candidates);
-            return run;
-        };
-        drop(candidates);
+    let mut step = |run: &Run| smaller(run).find(|candidate| holds(candidate));
+    while let Some(found) = step(&run) {
         run = found;
     }
+    run
 }
 
 /// Runs that are smaller in one place, the largest steps first. Each has fewer

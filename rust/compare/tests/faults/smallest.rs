@@ -50,10 +50,10 @@ fn parts(run: &Run) -> (Vec<Action>, &Call, [usize; 2]) {
     (actions, call, records)
 }
 
-/// Nothing but the largest limit that is not enough, and a lamport.
+/// A limit of nothing, and a lamport.
 #[test]
 #[cfg_attr(not(oracle_sources), ignore)]
-fn of_a_limit_that_lets_one_more_pass() {
+fn of_a_limit_that_is_not_asked() {
     let run = smallest(|right, region, call| taken_for_0(right, region, call, 7));
     let (actions, call, records) = parts(&run);
     let limit = Action {
@@ -120,26 +120,20 @@ fn of_damage_that_is_not_seen() {
 #[test]
 #[cfg_attr(not(oracle_sources), ignore)]
 fn of_a_run() {
-    let judge: Judge = |right, region, call| {
-        let answer = right.judge(region, call);
-        if call.instructions.len() > 1 || answer > 0 {
-            return answer;
-        }
-        region.fill(0);
-        0
-    };
+    let judge: Judge = |right, region, call| taken_for_0(right, region, call, 7);
     let right = published();
     let run = (0..)
         .map(|case| runs::draw(&mut Chance::of_case(1, RUN, case)))
         .find(|run| {
             let fault = &mut Faulty(right, judge);
             let found = parting(&mut right.clone(), fault, run, &mut |_| {});
+            // Other calls were settled before.
             found.is_some_and(|found| found.at.region != run.region)
         })
         .unwrap();
-    assert!(run.calls.len() > 1);
     let fault = &mut Faulty(right, judge);
     let found = parting(&mut right.clone(), fault, &run, &mut |_| {}).unwrap();
     let again = parting(&mut right.clone(), fault, &found.at, &mut |_| {});
+    assert_eq!(found.at.calls.len(), 1);
     assert_eq!(again, Some(found));
 }
