@@ -13,7 +13,7 @@ use crate::{
 };
 
 /// What a judged call is given besides the region, tables as their bytes.
-#[derive(Clone, Debug)]
+#[derive(Clone, Debug, PartialEq, Eq)]
 pub struct Call {
     /// The account table before the instructions ran.
     pub before: Vec<u8>,
@@ -40,6 +40,20 @@ const MAX_PARTS: usize = 60_000;
 impl Call {
     fn parts(&self) -> [&[u8]; 3] {
         [&self.before, &self.after, &self.instructions]
+    }
+
+    /// The call as the C boundary takes it.
+    pub fn lent(&self) -> thimbleford::Call<'_> {
+        thimbleford::Call {
+            before: &self.before,
+            after: &self.after,
+            instructions: &self.instructions,
+            vault: &self.vault,
+            slot: self.slot,
+            lamports_before: self.lamports_before,
+            lamports_after: self.lamports_after,
+            gross: self.gross,
+        }
     }
 
     /// Whether a program reads the call.
@@ -71,6 +85,20 @@ impl Call {
 /// A region and a call on it. One in ten is spoilt, and may then lie
 /// outside the domain of the published code.
 pub fn draw(chance: &mut Chance) -> (Vec<u8>, Call) {
+    let (actions, mut call) = sound(chance);
+    let mut region = region::encode(&actions);
+    if chance.one_in(10) {
+        // Two of them together show which one decides.
+        for _ in 0..1 + chance.below(2) {
+            spoil(chance, &actions, &mut region, &mut call);
+        }
+    }
+    (region, call)
+}
+
+/// The actions of a region in stored form, and a call with well-formed tables
+/// and instructions.
+pub fn sound(chance: &mut Chance) -> (Vec<Action>, Call) {
     let world = World::draw(chance);
     let before = world.before(chance);
     let after = world.after(chance, &before);
@@ -95,7 +123,6 @@ pub fn draw(chance: &mut Chance) -> (Vec<u8>, Call) {
         actions.clear();
     }
 
-    let mut region = region::encode(&actions);
     let mut call = Call {
         before: table::encode(&before),
         after: table::encode(&after),
@@ -110,13 +137,7 @@ pub fn draw(chance: &mut Chance) -> (Vec<u8>, Call) {
         let more = 1 + chance.below(8);
         call.instructions.extend(chance.bytes(more));
     }
-    if chance.one_in(10) {
-        // Two of them together show which one decides.
-        for _ in 0..1 + chance.below(2) {
-            spoil(chance, &actions, &mut region, &mut call);
-        }
-    }
-    (region, call)
+    (actions, call)
 }
 
 /// Spoils the instructions, which the published code refuses, or a table or the

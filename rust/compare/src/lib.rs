@@ -1,15 +1,17 @@
 //! The differential runner: the port held beside the published Rust.
 //!
-//! Creation and judging are compared through [`subjects::Subject`] by
-//! [`runner::compare`]; they and the functions below them through the program
-//! `vectors`, which answers cases from its standard input ([`vectors`]); runs of
-//! calls on one region through the program `replay` ([`replay`]). The cases are
-//! drawn from a seed.
+//! Creation, judged calls and runs of calls on one region are compared in this
+//! process, through the archive of the C functions ([`runner`], [`subjects`]);
+//! what is not behind that boundary through the program `vectors`, which answers
+//! cases from its standard input ([`vectors`]); what the program `replay` prints
+//! in [`replay`]. The cases are drawn from a seed. A difference is cut down to
+//! the smallest case that shows it ([`shrink`]). [`mod@bench`] times both sides.
 //!
 //! Where the published sources were not found the crate builds, and tests what
 //! it can; [`NOT_RUN`] is the line that says so.
 
 pub mod aim;
+pub mod bench;
 pub mod breach;
 pub mod bytes;
 pub mod calls;
@@ -18,11 +20,14 @@ pub mod creation;
 pub mod damage;
 pub mod numbers;
 pub mod program;
+pub mod progress;
 pub mod record;
 pub mod region;
 pub mod replay;
 pub mod report;
 pub mod runner;
+pub mod runs;
+pub mod shrink;
 pub mod stream;
 pub mod subjects;
 pub mod table;

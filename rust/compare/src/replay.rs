@@ -6,30 +6,19 @@ use oracle::Oracle;
 
 use crate::{
     bytes::hex,
-    calls::{self, Call},
+    calls::Call,
     chance::Chance,
     numbers::{self, RUNNING},
     program,
+    progress::Progress,
     region::{self, Action, Recurring, Rule},
     report::{Difference, Domain, Report},
+    runs::{self, Run},
     subjects::{Published, Subject},
-    table::{self, AMOUNT, TOKEN_ACCOUNT},
 };
 
 /// The name in a report.
 pub const REPLAY: &str = "replay";
-
-/// The most calls of a run.
-const MAX_CALLS: usize = 200;
-
-/// A region that creation accepts, and calls on it.
-#[derive(Clone, Debug)]
-pub struct Run {
-    /// The region at first.
-    pub region: Vec<u8>,
-    /// The calls in order.
-    pub calls: Vec<Call>,
-}
 
 impl Run {
     /// The program's input.
@@ -56,64 +45,6 @@ impl Run {
         }
         numbers
     }
-
-    /// A region as new with calls by chance: the slots go on and back, and the
-    /// amounts are small beside the limits, or are not.
-    pub fn draw(chance: &mut Chance, oracle: &Oracle) -> Self {
-        loop {
-            let (region, first) = calls::draw(chance);
-            let Some(mut actions) = region::cut(&region) else {
-                continue;
-            };
-            for fields in actions.iter_mut().filter_map(|a| a.rule.recurring_mut()) {
-                fields.spent = 0;
-                fields.last_reset = 0;
-            }
-            let region = region::encode(&actions);
-            if oracle.create(&region) != 0 || !first.is_readable() {
-                continue;
-            }
-            let count = match chance.one_in(8) {
-                true => MAX_CALLS,
-                false => 1 + chance.below(30),
-            };
-            let mut calls = vec![first];
-            while calls.len() < count {
-                let next = following(chance, calls.last().expect("there is a first"));
-                calls.push(next);
-            }
-            return Self { region, calls };
-        }
-    }
-}
-
-/// A call after another one, on the same accounts.
-fn following(chance: &mut Chance, last: &Call) -> Call {
-    let mut call = last.clone();
-    let step = chance.below(40) as u64;
-    call.slot = match chance.below(4) {
-        0 => call.slot.saturating_sub(step),
-        1 => call.slot,
-        _ => call.slot.saturating_add(step),
-    };
-    let decrease = chance.below(60) as u64;
-    call.lamports_before = call.lamports_before.max(decrease);
-    call.lamports_after = call.lamports_before - decrease;
-    call.gross = decrease;
-    call.after = call.before.clone();
-    if let Some(mut records) = table::decode(&call.before) {
-        for record in &mut records {
-            if record.data.len() >= TOKEN_ACCOUNT && chance.one_in(2) {
-                let place = AMOUNT..AMOUNT + 8;
-                let bytes = record.data[place.clone()].try_into().expect("eight bytes");
-                let taken = chance.below(60) as u64;
-                let left = u64::from_le_bytes(bytes).saturating_sub(taken);
-                record.data[place].copy_from_slice(&left.to_le_bytes());
-            }
-        }
-        call.after = table::encode(&records);
-    }
-    call
 }
 
 /// What the program has to print.
@@ -137,8 +68,10 @@ pub fn compare(oracle: &Oracle, program: &mut Command, seed: u64, runs: u64) -> 
         function: REPLAY,
         answers: numbers::names(&RUNNING),
     }]);
+    let mut progress = Progress::start();
     for case in 0..runs {
-        let run = Run::draw(&mut Chance::of_case(seed, REPLAY, case), oracle);
+        progress.at(REPLAY, case, runs);
+        let run = runs::draw(&mut Chance::of_case(seed, REPLAY, case));
         let numbers = run.numbers(oracle);
         for number in &numbers[1..] {
             report.count(REPLAY, numbers::name(*number));
@@ -232,25 +165,5 @@ mod tests {
                 "region 1\nend 0\n",
             ]
         );
-    }
-
-    #[test]
-    #[cfg_attr(not(oracle_sources), ignore)]
-    fn runs_are_long_and_change_the_region() {
-        let oracle = oracle();
-        let runs: Vec<Run> = (0..100)
-            .map(|case| Run::draw(&mut Chance::of_case(3, REPLAY, case), &oracle))
-            .collect();
-        assert!(runs.iter().any(|run| run.calls.len() == MAX_CALLS));
-        let back = |run: &Run| run.calls.windows(2).any(|two| two[1].slot < two[0].slot);
-        assert!(runs.iter().any(back));
-        let settles = |run: &Run| {
-            let mut region = run.region.clone();
-            for call in &run.calls {
-                Published(oracle).judge(&mut region, call);
-            }
-            region != run.region
-        };
-        assert!(runs.iter().filter(|run| settles(run)).count() > 30);
     }
 }

@@ -3,6 +3,8 @@
 
 use std::{collections::BTreeMap, fmt};
 
+use crate::runs::Run;
+
 /// So many differences are kept in full; the others are counted.
 const KEPT: usize = 5;
 
@@ -34,6 +36,7 @@ pub struct Report {
     answered: BTreeMap<(&'static str, &'static str), u64>,
     kept: Vec<Difference>,
     differences: u64,
+    smallest: Option<Run>,
 }
 
 impl Report {
@@ -44,6 +47,7 @@ impl Report {
             answered: BTreeMap::new(),
             kept: Vec::new(),
             differences: 0,
+            smallest: None,
         }
     }
 
@@ -58,6 +62,16 @@ impl Report {
         if self.kept.len() < KEPT {
             self.kept.push(difference());
         }
+    }
+
+    /// Keeps the smallest run of the first difference.
+    pub fn keep_smallest(&mut self, find: impl FnOnce() -> Run) {
+        self.smallest.get_or_insert_with(find);
+    }
+
+    /// The smallest run that was found to differ.
+    pub fn smallest(&self) -> Option<&Run> {
+        self.smallest.as_ref()
     }
 
     /// How many cases differed.
@@ -118,7 +132,7 @@ impl fmt::Display for Difference {
         } = self;
         writeln!(f, "difference: {function}, seed {seed}, case {case}")?;
         for (name, value) in parts {
-            writeln!(f, "  {name:<22}{value}")?;
+            writeln!(f, "  {name:<24}{value}")?;
         }
         Ok(())
     }

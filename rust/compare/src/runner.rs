@@ -1,24 +1,95 @@
-//! The runner: draws cases and compares two subjects on them, each answer and
+//! The runner: draws runs and compares two subjects on them, each answer and
 //! every byte of each region afterwards, of refused calls too.
+
+use std::fmt;
 
 use crate::{
     bytes::hex,
-    calls::{self, Call},
+    calls,
     chance::Chance,
     creation,
-    numbers::{self, CREATION, JUDGING},
+    numbers::{self, CREATION, JUDGING, RUNNING},
+    progress::Progress,
     report::{Difference, Domain, Report},
+    runs::{self, Run},
+    shrink,
     subjects::Subject,
 };
 
 /// The name of creation in a report.
 pub const CREATE: &str = "create";
 
-/// The name of judging in a report.
+/// The name of single judged calls in a report.
 pub const JUDGE: &str = "judge";
 
-/// Compares a subject with the one that is expected to be right, on so many
-/// cases of creation and as many judged calls.
+/// The name of the calls of runs in a report.
+pub const RUN: &str = "run";
+
+/// Where two subjects part.
+#[derive(Clone, Debug, PartialEq, Eq)]
+pub struct Parting {
+    /// The run up to there: its one call, or none for creation, on the region
+    /// as it was then.
+    pub at: Run,
+    /// The expected number and the other.
+    pub numbers: [u32; 2],
+    /// The expected region afterwards and the other.
+    pub regions: [Vec<u8>; 2],
+}
+
+/// The first place at which two subjects part on a run, if there is one. Each
+/// expected number goes to `seen`.
+pub fn parting(
+    expected: &mut dyn Subject,
+    subject: &mut dyn Subject,
+    run: &Run,
+    seen: &mut dyn FnMut(u32),
+) -> Option<Parting> {
+    let Run { region, calls } = run;
+    let mut regions = [region.clone(), region.clone()];
+    if calls.is_empty() {
+        let numbers = [expected.create(region), subject.create(region)];
+        seen(numbers[0]);
+        return (numbers[0] != numbers[1]).then(|| Parting {
+            at: run.clone(),
+            numbers,
+            regions,
+        });
+    }
+    let mut was = region.clone();
+    for call in calls {
+        let numbers = [
+            expected.judge(&mut regions[0], call),
+            subject.judge(&mut regions[1], call),
+        ];
+        seen(numbers[0]);
+        if numbers[0] != numbers[1] || regions[0] != regions[1] {
+            let at = Run {
+                region: was,
+                calls: vec![call.clone()],
+            };
+            return Some(Parting {
+                at,
+                numbers,
+                regions,
+            });
+        }
+        was.copy_from_slice(&regions[0]);
+    }
+    None
+}
+
+/// The smallest run that is found on which two subjects part, from where they
+/// do. A subject has no memory, so the one call at which they part is enough.
+fn smallest(expected: &mut dyn Subject, subject: &mut dyn Subject, parting: Parting) -> Run {
+    shrink::smallest(parting.at, &mut |run| {
+        self::parting(expected, subject, run, &mut |_| {}).is_some()
+    })
+}
+
+/// Compares a subject with the one that is expected to be right: on so many
+/// cases of creation, on as many judged calls, and on runs that have as many
+/// calls together.
 pub fn compare(
     expected: &mut dyn Subject,
     subject: &mut dyn Subject,
@@ -29,60 +100,77 @@ pub fn compare(
         function,
         answers: numbers::names(numbers),
     };
-    let mut report = Report::new(vec![domain(CREATE, &CREATION), domain(JUDGE, &JUDGING)]);
-    for case in 0..cases {
-        let region = creation::draw(&mut Chance::of_case(seed, CREATE, case));
-        let answers = [expected.create(&region), subject.create(&region)];
-        report.count(CREATE, numbers::name(answers[0]));
-        if answers[0] != answers[1] {
-            report.differ(|| Difference {
-                function: CREATE,
-                seed,
-                case,
-                parts: [vec![("region", hex(&region))], both(answers)].concat(),
-            });
-        }
-
-        let (region, call) = calls::draw(&mut Chance::of_case(seed, JUDGE, case));
-        let mut regions = [region.clone(), region.clone()];
-        let answers = [
-            expected.judge(&mut regions[0], &call),
-            subject.judge(&mut regions[1], &call),
-        ];
-        report.count(JUDGE, numbers::name(answers[0]));
-        if answers[0] != answers[1] || regions[0] != regions[1] {
-            let after = vec![
-                ("region after, expected", hex(&regions[0])),
-                ("region after, got", hex(&regions[1])),
-            ];
-            report.differ(|| Difference {
-                function: JUDGE,
-                seed,
-                case,
-                parts: [inputs(&region, &call), both(answers), after].concat(),
-            });
+    let mut report = Report::new(vec![
+        domain(CREATE, &CREATION),
+        domain(JUDGE, &JUDGING),
+        domain(RUN, &RUNNING),
+    ]);
+    let mut progress = Progress::start();
+    for (function, draw) in [
+        (CREATE, creation_run as fn(&mut Chance) -> Run),
+        (JUDGE, judged_run),
+        (RUN, runs::draw),
+    ] {
+        let mut done = 0;
+        for case in 0.. {
+            if done >= cases {
+                break;
+            }
+            let run = draw(&mut Chance::of_case(seed, function, case));
+            let mut count = |number| report.count(function, numbers::name(number));
+            let parting = parting(expected, subject, &run, &mut count);
+            done += run.calls.len().max(1) as u64;
+            progress.at(function, done, cases);
+            if let Some(parting) = parting {
+                report.differ(|| Difference {
+                    function,
+                    seed,
+                    case,
+                    parts: parting.parts(),
+                });
+                report.keep_smallest(|| smallest(expected, subject, parting));
+            }
         }
     }
     report
 }
 
-fn both([expected, got]: [u32; 2]) -> Vec<(&'static str, String)> {
-    vec![
-        ("expected", numbers::name(expected).to_string()),
-        ("got", format!("{got}")),
-    ]
+fn creation_run(chance: &mut Chance) -> Run {
+    Run {
+        region: creation::draw(chance),
+        calls: vec![],
+    }
 }
 
-fn inputs(region: &[u8], call: &Call) -> Vec<(&'static str, String)> {
-    vec![
-        ("region", hex(region)),
-        ("table before", hex(&call.before)),
-        ("table after", hex(&call.after)),
-        ("instructions", hex(&call.instructions)),
-        ("vault key", hex(&call.vault)),
-        ("slot", call.slot.to_string()),
-        ("lamports before", call.lamports_before.to_string()),
-        ("lamports after", call.lamports_after.to_string()),
-        ("gross outflow", call.gross.to_string()),
-    ]
+fn judged_run(chance: &mut Chance) -> Run {
+    let (region, call) = calls::draw(chance);
+    Run {
+        region,
+        calls: vec![call],
+    }
+}
+
+impl Parting {
+    /// What was asked and what came of it, each part with its name.
+    fn parts(&self) -> Vec<(&'static str, String)> {
+        let [expected, got] = self.numbers;
+        let mut parts = vec![("region", hex(&self.at.region))];
+        for call in &self.at.calls {
+            parts.extend(runs::fields(call));
+        }
+        parts.push(("expected", numbers::name(expected).to_string()));
+        parts.push(("got", got.to_string()));
+        if !self.at.calls.is_empty() {
+            parts.push(("region after, expected", hex(&self.regions[0])));
+            parts.push(("region after, got", hex(&self.regions[1])));
+        }
+        parts
+    }
+}
+
+impl fmt::Display for Parting {
+    fn fmt(&self, f: &mut fmt::Formatter) -> fmt::Result {
+        let mut parts = self.parts().into_iter();
+        parts.try_for_each(|(name, value)| writeln!(f, "  {name:<24}{value}"))
+    }
 }

@@ -1,12 +1,12 @@
 //! Streams of compact instructions.
 
-use crate::{chance::Chance, damage::damage};
+use crate::{bytes::Cursor, chance::Chance, damage::damage};
 
 /// The most instructions that a stream may have.
 pub const MAX_INSTRUCTIONS: usize = 16;
 
 /// One compact instruction.
-#[derive(Clone, Debug)]
+#[derive(Clone, Debug, PartialEq, Eq)]
 pub struct Entry {
     /// The index of the program's record.
     pub program: u8,
@@ -76,6 +76,25 @@ pub fn encode(entries: &[Entry]) -> Vec<u8> {
     bytes
 }
 
+/// The entries of a stream, for taking it apart: no expected answer comes from
+/// it. Bytes after the last entry are left out.
+pub fn decode(bytes: &[u8]) -> Option<Vec<Entry>> {
+    let mut cursor = Cursor::new(bytes);
+    let [count] = cursor.array()?;
+    let entry = |_| {
+        let [program, accounts] = cursor.array()?;
+        let accounts = cursor.take(accounts.into())?.to_vec();
+        let data = u16::from_le_bytes(cursor.array()?);
+        let data = cursor.take(data.into())?.to_vec();
+        Some(Entry {
+            program,
+            accounts,
+            data,
+        })
+    };
+    (0..count).map(entry).collect()
+}
+
 /// Bytes to read as a stream: sound ones, with or without bytes after them,
 /// damaged ones, a count too high, and none at all.
 pub fn draw(chance: &mut Chance) -> Vec<u8> {
@@ -107,4 +126,24 @@ pub fn draw(chance: &mut Chance) -> Vec<u8> {
         _ => {}
     }
     bytes
+}
+
+#[cfg(test)]
+mod tests {
+    use super::*;
+
+    #[test]
+    fn a_stream_comes_back() {
+        let entry = |program| Entry {
+            program,
+            accounts: vec![5],
+            data: vec![0xAA, 0xBB],
+        };
+        let entries = vec![entry(2), entry(3)];
+        let bytes = encode(&entries);
+        assert_eq!(bytes[..8], [2, 2, 1, 5, 2, 0, 0xAA, 0xBB]);
+        assert_eq!(decode(&[&bytes[..], &[0xCC]].concat()), Some(entries));
+        assert_eq!(decode(&bytes[..bytes.len() - 1]), None);
+        assert_eq!(decode(&[]), None);
+    }
 }

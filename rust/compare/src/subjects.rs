@@ -1,10 +1,11 @@
 //! Who can be asked to create and to judge.
 //!
-//! A subject of its own is all that the runner needs to compare another
-//! implementation, such as the port behind its C boundary, with the published
-//! code: a region as bytes, in place where it is judged, and tables as bytes.
+//! A subject is all that the runner needs to compare an implementation with the
+//! published code: a region as bytes, in place where it is judged, and tables as
+//! bytes.
 
 use oracle::Oracle;
+use thimbleford::Refusal;
 
 use crate::{
     calls::Call,
@@ -69,4 +70,22 @@ impl Subject for Published {
         };
         self.0.judge(region, &call)
     }
+}
+
+/// The port behind its C boundary, linked into this process.
+#[derive(Clone, Copy)]
+pub struct Archive;
+
+impl Subject for Archive {
+    fn create(&mut self, region: &[u8]) -> u32 {
+        number(thimbleford::create(region))
+    }
+
+    fn judge(&mut self, region: &mut [u8], call: &Call) -> u32 {
+        number(thimbleford::judge(region, &call.lent()))
+    }
+}
+
+fn number(answer: Result<(), Refusal>) -> u32 {
+    answer.map_or_else(|refusal| refusal.number(), |()| 0)
 }

@@ -5,9 +5,9 @@ use compare::{
     calls::{self, Call},
     chance::Chance,
     creation,
-    numbers::{self, CREATION, JUDGING},
+    numbers::{self, CREATION, JUDGING, RUNNING},
     region,
-    runner::{self, CREATE, JUDGE},
+    runner::{self, CREATE, JUDGE, RUN},
     stream,
     subjects::{Published, Subject},
     vectors::{answer, draw, Kind, KINDS},
@@ -33,10 +33,12 @@ fn says_that_the_comparison_is_not_run() {
 fn every_number_is_answered_often() {
     let mut right = published();
     let report = runner::compare(&mut right.clone(), &mut right, 1, CASES);
-    for (function, numbers) in [(CREATE, &CREATION[..]), (JUDGE, &JUDGING[..])] {
+    for (function, numbers) in [(CREATE, &CREATION[..]), (JUDGE, &JUDGING), (RUN, &RUNNING)] {
+        // The calls of a run have much in common.
+        let often = CASES / if function == RUN { 300 } else { 100 };
         for number in numbers {
             let times = report.answered(function, numbers::name(*number));
-            assert!(times > CASES / 100, "{report}");
+            assert!(times > often, "{report}");
         }
     }
 }
@@ -57,7 +59,7 @@ fn a_number_that_is_never_reached_fails() {
     assert_eq!(report.differences(), 0);
     assert!(!report.passed());
     let missing = report.missing();
-    assert_eq!(missing.len(), 2 + 12);
+    assert_eq!(missing.len(), 2 + 12 + 10);
     assert!(missing.contains(&(CREATE, "0 accepted")));
     assert!(report
         .to_string()

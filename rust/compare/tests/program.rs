@@ -7,6 +7,8 @@ use std::{
 };
 
 use compare::{
+    chance::Chance,
+    runs,
     vectors::{self, KINDS},
     NOT_RUN,
 };
@@ -78,11 +80,28 @@ fn a_program_that_is_not_there_is_an_error() {
 
 #[test]
 fn what_is_not_compared_is_said_in_one_line() {
-    let output = output(&["run"]);
-    assert!(output.status.success() && output.stdout.is_empty());
+    let output = output(&["run", "--cases", "2000"]);
+    assert!(output.status.success());
     let text = String::from_utf8(output.stderr).unwrap();
     assert_eq!(text.lines().count(), 1);
     assert_eq!(text.trim_end() == NOT_RUN, !oracle::AVAILABLE);
+    let text = String::from_utf8(output.stdout).unwrap();
+    assert_eq!(text.ends_with("no difference\n"), oracle::AVAILABLE);
+}
+
+#[test]
+#[cfg_attr(not(oracle_sources), ignore)]
+fn a_case_is_compared_again() {
+    let file = env::temp_dir().join(format!("compare-again-{}", process::id()));
+    let path = file.to_str().unwrap();
+    fs::write(&file, runs::draw(&mut Chance::new(1)).to_string()).unwrap();
+    let said = output(&["again", path]);
+    assert_eq!(said.status.code(), Some(0));
+    assert!(said.stdout.starts_with(b"expected "));
+    assert!(said.stdout.ends_with(b"no difference\n"));
+    fs::write(&file, "no case").unwrap();
+    assert_eq!(status(&["again", path]), Some(2));
+    fs::remove_file(file).unwrap();
 }
 
 #[test]
@@ -107,6 +126,7 @@ fn the_command_line() {
         &["walk"],
         &["run", "--cases"],
         &["run", "--seed", "x"],
+        &["again"],
     ] {
         assert_eq!(status(wrong), Some(2), "{wrong:?}");
     }

@@ -9,6 +9,7 @@ use crate::{
     bytes::hex,
     chance::Chance,
     program,
+    progress::Progress,
     report::{Difference, Report},
 };
 
@@ -29,16 +30,17 @@ pub fn compare(
     program: &mut Command,
     kinds: &[Kind],
     seed: u64,
-    cases: u64,
+    all: u64,
 ) -> io::Result<Report> {
     let mut report = Report::new(kinds.iter().copied().map(Kind::domain).collect());
     let numbered = |kind: Kind| {
-        (0..cases).map(move |number| {
+        (0..all).map(move |number| {
             let mut chance = Chance::of_case(seed, kind.name(), number);
             (number, draw(&mut chance, kind, number))
         })
     };
     let mut drawn = kinds.iter().copied().flat_map(numbered);
+    let mut progress = Progress::start();
     loop {
         let (numbers, cases) = batch(&mut drawn);
         if cases.is_empty() {
@@ -46,6 +48,7 @@ pub fn compare(
         }
         let mut lines = ask(program, &cases)?.into_iter();
         for (number, case) in numbers.into_iter().zip(&cases) {
+            progress.at(case.kind.name(), number, all);
             let expected = answer(oracle, case).expect("drawn payloads are long enough");
             report.count(case.kind.name(), expected.sort);
             let got = lines.next().unwrap_or("no line".to_string());

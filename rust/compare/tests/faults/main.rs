@@ -3,6 +3,7 @@
 //! calls easy to make.
 
 mod others;
+mod smallest;
 
 use std::collections::HashSet;
 
@@ -84,22 +85,24 @@ fn the_published_code_agrees_with_itself() {
 
 /// Where slot - last_reset is just the window, last_reset is handed over one
 /// smaller, and put back where it was not written.
+fn reset_at_the_window(right: &mut Published, region: &mut [u8], call: &Call) -> u32 {
+    let change = |mut action: Action| {
+        if let Some(fields) = action.rule.recurring_mut() {
+            let at_the_window = call.slot.checked_sub(fields.last_reset) == Some(fields.window);
+            if at_the_window && fields.last_reset > 0 {
+                fields.last_reset -= 1;
+            }
+        }
+        action
+    };
+    let back = |was, handed, left| if left == handed { was } else { left };
+    with_actions(right, region, call, change, back)
+}
+
 #[test]
 #[cfg_attr(not(oracle_sources), ignore)]
 fn a_reset_at_the_window_itself() {
-    is_found(|right, region, call| {
-        let change = |mut action: Action| {
-            if let Some(fields) = action.rule.recurring_mut() {
-                let at_the_window = call.slot.checked_sub(fields.last_reset) == Some(fields.window);
-                if at_the_window && fields.last_reset > 0 {
-                    fields.last_reset -= 1;
-                }
-            }
-            action
-        };
-        let back = |was, handed, left| if left == handed { was } else { left };
-        with_actions(right, region, call, change, back)
-    });
+    is_found(reset_at_the_window);
 }
 
 /// Expired whitelists are not handed over.

@@ -189,4 +189,11 @@ fn a_creation_that_finds_no_conflict() {
     assert!(report
         .to_string()
         .contains("difference: create, seed 1, case "));
+    // The smallest region with a conflict has one entry of each list.
+    let run = report.smallest().unwrap();
+    let codes: Vec<u8> = (region::cut(&run.region).unwrap().iter())
+        .map(|action| action.rule.code())
+        .collect();
+    assert!(run.calls.is_empty() && [[10, 11], [11, 10]].contains(&[codes[0], codes[1]]));
+    assert_eq!(codes.len(), 2);
 }

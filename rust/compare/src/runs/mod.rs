@@ -1,0 +1,19 @@
+//! Runs: a region and the calls on it.
+
+mod draw;
+mod text;
+
+use crate::calls::Call;
+
+pub use draw::{draw, MAX_CALLS};
+pub use text::fields;
+
+/// A region and calls that are judged on it in turn. Without calls it stands
+/// for the region's creation.
+#[derive(Clone, Debug, PartialEq, Eq)]
+pub struct Run {
+    /// The region at first.
+    pub region: Vec<u8>,
+    /// The calls in order.
+    pub calls: Vec<Call>,
+}
