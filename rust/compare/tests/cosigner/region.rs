@@ -5,8 +5,7 @@ use std::collections::BTreeMap;
 use compare::{
     calls::{self, Call},
     chance::Chance,
-    creation, region,
-    replay::Run,
+    creation, region, runs,
     subjects::Subject,
 };
 use thimbleford::{region as cosigner, Refusal};
@@ -121,7 +120,7 @@ fn after_each_call_of_a_run_the_amounts_are_those_that_the_published_code_left()
     let mut right = published();
     let (mut accepted, mut refused) = (0, 0);
     for case in 0..60 {
-        let run = Run::draw(&mut Chance::of_case(3, "run", case), &right.0);
+        let run = runs::draw(&mut Chance::of_case(3, "run", case));
         let (mut region, mut expected) = (run.region.clone(), run.region);
         for call in &run.calls {
             let answer = thimbleford::judge(&mut region, &lent(call));

@@ -226,10 +226,11 @@ fn list(payload: &[u8]) -> Option<(Vec<Entry>, usize, &[u8])> {
     let [count] = payload.array()?;
     let entries = (0..count).map(|_| {
         let [program] = payload.array()?;
+        let mut place = || usize::try_from(payload.u64()?).ok();
         Some(Entry {
             program,
-            accounts: (payload.length()?, payload.length()?),
-            data: (payload.length()?, payload.length()?),
+            accounts: (place()?, place()?),
+            data: (place()?, place()?),
         })
     });
     let entries = entries.collect::<Option<_>>()?;

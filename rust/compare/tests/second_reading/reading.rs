@@ -225,8 +225,8 @@ pub fn write(entries: &[Entry], source: &[u8], room: usize) -> Result<Vec<u8>, u
     let mut bytes = vec![entries.len() as u8];
     for entry in entries {
         let part = |(at, len): (usize, usize), most| {
-            let inside = len <= most && at + len <= source.len();
-            inside.then(|| &source[at..at + len]).ok_or(16u32)
+            let end = at.checked_add(len).filter(|_| len <= most);
+            end.and_then(|end| source.get(at..end)).ok_or(16u32)
         };
         let (accounts, data) = (part(entry.accounts, 255)?, part(entry.data, 65_535)?);
         bytes.extend([entry.program, accounts.len() as u8]);
