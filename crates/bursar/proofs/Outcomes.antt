@@ -13,7 +13,7 @@ use Rattle.answer.specs.Outcome.{one-outcome}
 use Rattle.answer.specs.Refusable.{refused}
 use Rattle.answer.specs.declared.Answer.{Answer}
 use Rattle.number.specs.Number.{cappedSum, flooredDifference, numberAt, withNumberAt}
-use Rattle.key.specs.Key.{isAmong, keysIn, keysOf, sameKey, withKey}
+use Rattle.key.specs.Key.{isAmong, keysIn, keysOf, sameBytes, sameKey, withKey}
 use Rattle.key.specs.declared.Keys.{Keys}
 use Rattle.action.specs.Creation.{creation, howOften, storedActions}
 use Rattle.action.specs.Fields.{amountsOf as action-amountsOf, changed, changedAmounts, isRecurring, isToken, keyOf, lastReset, limit as limitOf, maximum as maximumOf, remaining as remainingOf, spent as spentOf, window as windowOf}
@@ -101,6 +101,11 @@ pub number-floored-difference : (a b : ℕ)
 number-floored-difference _ _ _ _ p q = one-outcome p q
 
 -- ---- key
+
+-- key::same_bytes
+pub key-same-bytes : (a b : List ℕ)
+    → OneOutcome (λ (r : Bool). r ≡ sameBytes a b)
+key-same-bytes _ _ _ _ p q = one-outcome p q
 
 -- key::same_key
 pub key-same-key : (a b : List ℕ)

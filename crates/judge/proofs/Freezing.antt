@@ -9,7 +9,6 @@ use native.Mathlib.Omega.{arith}
 use lib.ListN.{length, getD, take, drop, length-drop, drop-of-length-le}
 use lib.Seq.{take-all, take-nil}
 use Rattle.key.specs.Key.{sameKey, sameBytes}
-use Rattle.key.proofs.Laws.{same-bytes-eq, same-bytes-refl}
 use Rattle.account.specs.declared.RecordView.{RecordView}
 use Rattle.account.specs.declared.Table.{Table}
 use Rattle.account.specs.Table.{Record}
@@ -31,19 +30,9 @@ part-short s at size h short =
     let small : length (drop at s) ≤ size = rw (length-drop at s) (omega arith) in
     take-all (length s - at) (drop at s) long ∙ sym (take-all size (drop at s) small)
 
--- a comparison that answers true just where two lists are equal
-pub compared : (r : Bool) (a b : List ℕ) → (r ≡ true → a ≡ b) → (a ≡ b → r ≡ true) → r ≡ sameBytes a b
-compared true a b same eq = sym (ap (sameBytes a) (sym (same refl)) ∙ same-bytes-refl a)
-compared false a b same eq = go (sameBytes a b) refl
-  where
-    go : (t : Bool) → sameBytes a b ≡ t → false ≡ t
-    go true e = eq (same-bytes-eq a b e)
-    go false e = refl
-
-pub part-compared : (at size : ℕ) (p q a b : List ℕ) (r : Bool) → a ≡ take size (drop at p) → b ≡ take size (drop at q)
-    → (r ≡ true → a ≡ b) → (a ≡ b → r ≡ true) → r ≡ samePart at size p q
+pub part-compared : (at size : ℕ) (p q a b : List ℕ) → a ≡ take size (drop at p) → b ≡ take size (drop at q) → sameBytes a b ≡ samePart at size p q
 unfolding samePart
-part-compared at size p q a b r pa qb same eq = rw (← pa, ← qb) (compared r a b same eq)
+part-compared at size p q a b pa qb = rw (← pa, ← qb)
 
 -- ---- authorities
 

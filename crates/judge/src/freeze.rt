@@ -41,7 +41,7 @@ fn part_of(bytes: &[u8], at: usize, size: usize) -> &[u8]
 fn same_part(a: &[u8], b: &[u8], at: usize, size: usize) -> bool
     ensures { λ r. ⌜ r ≡ samePart at size (now (a .entry)) (now (b .entry)) ⌝ }
 {
-    check::same(part_of(a, at, size), part_of(b, at, size))
+    key::same_bytes(part_of(a, at, size), part_of(b, at, size))
 }
 
 fn same_authorities(a: &[u8], b: &[u8]) -> bool

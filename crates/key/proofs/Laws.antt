@@ -23,6 +23,13 @@ pub same-bytes-end : (a b : List ℕ) (i : ℕ) → length a ≤ i → length b 
 unfolding sameBytes
 same-bytes-end a b i ha hb = rw (drop-of-length-le a ha, drop-of-length-le b hb)
 
+pub lengths-differ : (a b : List ℕ) → (length b ≡ length a → ⊥) → sameBytes a b ≡ false
+unfolding sameBytes
+lengths-differ [] [] h = absurd (h refl)
+lengths-differ [] (y ∷ b) h = refl
+lengths-differ (x ∷ a) [] h = refl
+lengths-differ (x ∷ a) (y ∷ b) h = rw (lengths-differ a b (λ e. h (omega arith))) (and-false (eqb x y))
+
 pub keys-compared : (a b : List ℕ) → length a ≡ 32 → length b ≡ 32 → sameKey a b ≡ sameBytes a b
 unfolding sameKey
 keys-compared a b ha hb = rw (eq-eqb _ _ ha, eq-eqb _ _ hb)

@@ -1,5 +1,6 @@
--- `judge::freeze::same_part` meets its contract, from what comparing two slices says.
+-- `judge::freeze::same_part` meets its contract, since the two parts compare as their bytes do.
 -- Assumes nothing.
+use mathlib.Core.Path.{_∙_}
 use Rattle.judge.proofs.Freezing.{part-compared}
 use borrow.Author.Needs.{needs}
 use Rattle.judge.proofs.freeze.same_part.Statement.{statement}
@@ -11,11 +12,11 @@ part-of-requires c κs = search needs
 part-of-requires-2 : tie.Need-part-of-requires-2
 part-of-requires-2 c κs = search needs
 
-same-requires : tie.Need-same-requires
-same-requires c κs = search needs
+same-bytes-requires : tie.Need-same-bytes-requires
+same-bytes-requires c κs = search needs
 
 returns : tie.Need-returns
-returns c = part-compared _ _ _ _ _ _ _ (c .before .before .part-of .ensures) (c .before .part-of2 .ensures) (c .same .ensures .0) (c .same .ensures .1)
+returns c = c .same-bytes .ensures ∙ part-compared _ _ _ _ _ _ (c .before .before .part-of .ensures) (c .before .part-of2 .ensures)
 
 pub same-part-spec : {M : Type 1} → statement M
-same-part-spec = tie.close (tie.spec part-of-requires part-of-requires-2 same-requires returns)
+same-part-spec = tie.close (tie.spec part-of-requires part-of-requires-2 same-bytes-requires returns)
