@@ -6,5 +6,6 @@ pub mod Given
 pub mod Views
 pub mod Gluing
 pub mod Balances
+pub mod InRow
 pub mod Lookups
 pub mod Theorems

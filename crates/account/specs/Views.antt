@@ -12,6 +12,7 @@ use Rattle.account.specs.declared.RecordView.{RecordView}
 use Rattle.account.specs.declared.parse.RecordRead.{RecordRead}
 use Rattle.account.specs.declared.parse.RecordRead.the-variants.{View, Refused}
 use Rattle.account.specs.declared.Table.{Table}
+use Rattle.account.specs.declared.Places.{Places}
 use Rattle.account.specs.Table.{Record, firstRecord, tableHeader, recordHeader, mostRecords}
 
 -- the view of a record that starts at a place
@@ -61,3 +62,23 @@ viewsIn t = take (t .count) (t .views)
 unfoldable pub recordsAt : List ℕ → Table → List Record
 unfolding recordAt viewsIn
 recordsAt s t = map (recordAt s) (viewsIn t)
+
+-- the views that a row of numbers holds, two numbers for each: where the record starts and how long its data is
+unfoldable pub viewsOf : List ℕ → List RecordView
+viewsOf [] = []
+viewsOf (a ∷ []) = []
+viewsOf (a ∷ n ∷ l) = record { at = a; len = n } ∷ viewsOf l
+
+-- and the row that holds some views
+unfoldable pub rowOf : List RecordView → List ℕ
+rowOf [] = []
+rowOf (v ∷ l) = v .at ∷ v .len ∷ rowOf l
+
+-- a table with its views as a row of numbers
+unfoldable pub placesOf : Table → Places
+unfolding rowOf
+placesOf t = record { answer = t .answer; list = rowOf (t .views); count = t .count }
+
+-- the table that a row of numbers and a count give
+abbrev pub tableIn : List ℕ → ℕ → Table
+tableIn list count = record { answer = answer accepted; views = viewsOf list; count = count }

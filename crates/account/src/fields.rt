@@ -3,8 +3,9 @@ use crate::RECORD_HEADER_SIZE;
 use crate::RecordView;
 use key::KEY_LENGTH;
 ghost use mathlib.Core.Path.{_≡_};
-ghost use lib.ListN.{drop};
-ghost use Rattle.account.specs.Views.{partAt, recordAt};
+ghost use lib.ListN.{length, getD, drop};
+ghost use Prim.Native.Nat.{min};
+ghost use Rattle.account.specs.Views.{partAt, recordAt, viewsOf, zeroView};
 
 const OWNER_PLACE: usize = 32;
 
@@ -49,4 +50,25 @@ pub fn record_payload(table: &[u8], view: RecordView) -> &[u8]
     ensures { λ r. ⌜ now r ≡ recordAt (now (table .entry)) view .payload ⌝ }
 {
     part(from(table, view.at), RECORD_HEADER_SIZE, view.len)
+}
+
+// The view at an index of a row of numbers, the zero view past the last.
+pub fn view_in(list: &[usize], i: usize) -> RecordView
+    ensures { λ r. ⌜ r ≡ getD (viewsOf (now (list .entry))) i zeroView ⌝ }
+{
+    if list.len() / 2 <= i {
+        return RecordView { at: 0, len: 0 };
+    }
+    RecordView {
+        at: list[2 * i],
+        len: list[2 * i + 1],
+    }
+}
+
+// How many views of a row there are to look at, whatever the count says.
+pub fn counted_in(list: &[usize], count: usize) -> usize
+    ensures { λ r. ⌜ r ≡ min count (length (viewsOf (now (list .entry)))) ⌝ }
+{
+    let most = list.len() / 2;
+    if count < most { count } else { most }
 }

@@ -26,3 +26,11 @@ pub struct Table {
     pub views: [RecordView; 64],
     pub count: usize,
 }
+
+// A table's records in order, two numbers for each: where it starts and how long its data is; zeros
+// past the count, and on a refusal everywhere. A row of numbers is lent where views would be copied.
+pub struct Places {
+    pub answer: Answer,
+    pub list: [usize; 128],
+    pub count: usize,
+}

@@ -1,5 +1,6 @@
 // Cutting a table into views of its records, in one pass over their headers.
 use crate::MAX_RECORDS;
+use crate::Places;
 use crate::RECORD_HEADER_SIZE;
 use crate::RecordView;
 use crate::TABLE_HEADER_SIZE;
@@ -12,7 +13,7 @@ ghost use Prim.Native.Nat.{min};
 ghost use Rattle.answer.specs.Numbers.{answer as answerOf, badTable};
 ghost use Rattle.answer.specs.Refusable.{refused as Refused};
 ghost use Rattle.account.specs.Table.{cutTable};
-ghost use Rattle.account.specs.Views.{readAt, readAnswer, tableOf, zeroView};
+ghost use Rattle.account.specs.Views.{readAt, readAnswer, tableOf, zeroView, placesOf};
 
 // What reading a record answers.
 enum RecordRead {
@@ -117,5 +118,52 @@ pub fn records_counted(count: usize) -> usize
         count
     } else {
         MAX_RECORDS
+    }
+}
+
+impl Places {
+    // A refusal has no places.
+    fn refused(answer: Answer) -> Self
+        ensures { λ r. ⌜ r ≡ placesOf (tableOf (Refused answer)) ⌝ }
+    {
+        Places {
+            answer,
+            list: [0usize; 128],
+            count: 0,
+        }
+    }
+}
+
+// The same into a row of numbers.
+pub fn cut_places(table: &[u8]) -> Places
+    ensures { λ r. ⌜ r ≡ placesOf (tableOf (cutTable (now (table .entry)))) ⌝ }
+{
+    if table.len() < TABLE_HEADER_SIZE {
+        return Places::refused(Answer::of(BAD_TABLE));
+    }
+    let counted = number::read_u16(table, 0) as usize;
+    if counted > MAX_RECORDS {
+        return Places::refused(Answer::of(BAD_TABLE));
+    }
+    let mut list = [0usize; 128];
+    let mut count = 0;
+    let mut at: usize = TABLE_HEADER_SIZE;
+    while count < counted {
+        let read = read_record(table, at);
+        let RecordRead::View(view) = read else {
+            return Places::refused(read_answer(read));
+        };
+        list[2 * count] = view.at;
+        list[2 * count + 1] = view.len;
+        count += 1;
+        at = view.at + RECORD_HEADER_SIZE + view.len;
+    }
+    if table.len() > at {
+        return Places::refused(Answer::of(BAD_TABLE));
+    }
+    Places {
+        answer: Answer::of(ACCEPTED),
+        list,
+        count,
     }
 }

@@ -8,7 +8,7 @@ use crate::programs::TOKEN_2022;
 ghost use mathlib.Core.Path.{_≡_};
 ghost use Rattle.number.specs.Number.{cappedSum};
 ghost use Rattle.account.specs.Tokens.{isTokenAccount, mintOf, isCounted, share, balance as balanceOf};
-ghost use Rattle.account.specs.Views.{recordAt, recordsAt};
+ghost use Rattle.account.specs.Views.{recordAt, recordsAt, tableIn};
 
 const TOKEN_ACCOUNT_MIN_SIZE: usize = 165;
 
@@ -77,6 +77,20 @@ pub fn balance(table: &[u8], cut: Table, vault: &[u8], mint: &[u8]) -> u64
     while 0 < i {
         i -= 1;
         let view = cut.views[i];
+        total = added(total, table, view, vault, mint);
+    }
+    total
+}
+
+// The same over a row of numbers, which is lent where a table would be copied.
+pub fn balance_in(table: &[u8], list: &[usize], count: usize, vault: &[u8], mint: &[u8]) -> u64
+    ensures { λ r. ⌜ r ≡ balanceOf (now (vault .entry)) (now (mint .entry)) (recordsAt (now (table .entry)) (tableIn (now (list .entry)) count)) ⌝ }
+{
+    let mut total = 0;
+    let mut i = fields::counted_in(list, count);
+    while i > 0 {
+        i -= 1;
+        let view = fields::view_in(list, i);
         total = added(total, table, view, vault, mint);
     }
     total

@@ -8,12 +8,15 @@ use Prim.Native.Nat.{ℕ, suc, _+_, _-_, _<_, _≤_, min}
 use native.Mathlib.Omega.{arith}
 use lib.ListN.{length, getD, take, drop, length-drop, drop-of-length-le}
 use lib.Seq.{take-all, take-nil}
-use Rattle.key.specs.Key.{sameKey, sameBytes}
+use Rattle.key.specs.declared.Key.{Key}
+use Rattle.key.specs.declared.Keys.{Keys}
+use Rattle.key.specs.Key.{sameKey, sameBytes, isAmong, keysIn}
+use Rattle.key.proofs.Laws.{keys-step, keys-end}
 use Rattle.account.specs.declared.RecordView.{RecordView}
 use Rattle.account.specs.declared.Table.{Table}
 use Rattle.account.specs.Table.{Record}
 use Rattle.account.specs.Tokens.{isTokenAccount, isCounted, mintOf}
-use Rattle.account.specs.Views.{recordAt, recordsAt}
+use Rattle.account.specs.Views.{recordAt, recordsAt, zeroView}
 use Rattle.account.proofs.Views.{records-step, length-records}
 use Rattle.judge.specs.Freeze.{firstWithKey, samePart, sameAuthorities, isStill, isFoundStill, keepsFreeze, allFrozen}
 
@@ -61,6 +64,10 @@ module _ (p : List ℕ) (q : Record) where
 
 -- ---- the first record with a key
 
+seen-step : (s : List ℕ) (t : Table) (i : ℕ) (v : RecordView) → v ≡ getD (t .views) i zeroView → i < t .count → i < length (t .views)
+    → drop i (recordsAt s t) ≡ recordAt s v ∷ drop (suc i) (recordsAt s t)
+seen-step s t i v ev hc hv = rw ev (records-step s t i zeroView hc hv)
+
 found : (key : List ℕ) (r : Record) (l : List Record) → sameKey (r .key) key ≡ true → firstWithKey key (r ∷ l) ≡ some r
 unfolding firstWithKey
 found key r l e = rw (e, firstWithKey)
@@ -70,14 +77,14 @@ unfolding firstWithKey
 passed key r l e = rw (e, firstWithKey)
 
 module _ (p key s : List ℕ) (t : Table) (i : ℕ) where
-  module _ (d : RecordView) (hc : i < t .count) (hv : i < length (t .views)) where
-    pub still-found : sameKey ((recordAt s (getD (t .views) i d)) .key) key ≡ true
-        → isFoundStill p (firstWithKey key (drop i (recordsAt s t))) ≡ isStill p (recordAt s (getD (t .views) i d))
-    still-found e = ap (λ (l : List Record). isFoundStill p (firstWithKey key l)) (records-step s t i d hc hv) ∙ ap (isFoundStill p) (found key _ _ e)
+  module _ (v : RecordView) (ev : v ≡ getD (t .views) i zeroView) (hc : i < t .count) (hv : i < length (t .views)) where
+    pub still-found : sameKey ((recordAt s v) .key) key ≡ true
+        → isFoundStill p (firstWithKey key (drop i (recordsAt s t))) ≡ isStill p (recordAt s v)
+    still-found e = ap (λ (l : List Record). isFoundStill p (firstWithKey key l)) (seen-step s t i v ev hc hv) ∙ ap (isFoundStill p) (found key _ _ e)
 
-    pub still-passed : sameKey ((recordAt s (getD (t .views) i d)) .key) key ≡ false
+    pub still-passed : sameKey ((recordAt s v) .key) key ≡ false
         → isFoundStill p (firstWithKey key (drop i (recordsAt s t))) ≡ isFoundStill p (firstWithKey key (drop (suc i) (recordsAt s t)))
-    still-passed e = ap (λ (l : List Record). isFoundStill p (firstWithKey key l)) (records-step s t i d hc hv) ∙ ap (isFoundStill p) (passed key _ _ e)
+    still-passed e = ap (λ (l : List Record). isFoundStill p (firstWithKey key l)) (seen-step s t i v ev hc hv) ∙ ap (isFoundStill p) (passed key _ _ e)
 
   pub still-end : min (t .count) (length (t .views)) ≤ i → isFoundStill p (firstWithKey key (drop i (recordsAt s t))) ≡ false
   unfolding firstWithKey
@@ -88,15 +95,15 @@ module _ (p key s : List ℕ) (t : Table) (i : ℕ) where
 -- ---- the freeze of one record
 
 module _ (vault : List ℕ) (listed : List ℕ → Bool) (after : List Record) (r : Record) where
+  pub not-listed-frozen : listed (mintOf r) ≡ false → keepsFreeze vault listed after r ≡ true
+  unfolding keepsFreeze
+  not-listed-frozen e = rw (e, and-false)
+
   pub not-counted-frozen : isCounted vault r ≡ false → keepsFreeze vault listed after r ≡ true
   unfolding keepsFreeze
   not-counted-frozen e = rw e
 
   module _ (c : isCounted vault r ≡ true) where
-    pub not-listed-frozen : listed (mintOf r) ≡ false → keepsFreeze vault listed after r ≡ true
-    unfolding keepsFreeze
-    not-listed-frozen e = rw (c, e)
-
     pub listed-frozen : listed (mintOf r) ≡ true → keepsFreeze vault listed after r ≡ isFoundStill (r .payload) (firstWithKey (r .key) after)
     unfolding keepsFreeze
     listed-frozen e = rw (c, e)
@@ -104,15 +111,15 @@ module _ (vault : List ℕ) (listed : List ℕ → Bool) (after : List Record) (
 -- ---- all records
 
 module _ (vault : List ℕ) (listed : List ℕ → Bool) (after : List Record) (s : List ℕ) (t : Table) (i : ℕ) where
-  module _ (d : RecordView) (hc : i < t .count) (hv : i < length (t .views)) where
-    pub frozen-passed : keepsFreeze vault listed after (recordAt s (getD (t .views) i d)) ≡ true
+  module _ (v : RecordView) (ev : v ≡ getD (t .views) i zeroView) (hc : i < t .count) (hv : i < length (t .views)) where
+    pub frozen-passed : keepsFreeze vault listed after (recordAt s v) ≡ true
         → allFrozen vault listed after (drop i (recordsAt s t)) ≡ allFrozen vault listed after (drop (suc i) (recordsAt s t))
     unfolding allFrozen
-    frozen-passed e = rw (records-step s t i d hc hv, e)
+    frozen-passed e = rw (seen-step s t i v ev hc hv, e)
 
-    pub frozen-broken : keepsFreeze vault listed after (recordAt s (getD (t .views) i d)) ≡ false → allFrozen vault listed after (drop i (recordsAt s t)) ≡ false
+    pub frozen-broken : keepsFreeze vault listed after (recordAt s v) ≡ false → allFrozen vault listed after (drop i (recordsAt s t)) ≡ false
     unfolding allFrozen
-    frozen-broken e = rw (records-step s t i d hc hv, e)
+    frozen-broken e = rw (seen-step s t i v ev hc hv, e)
 
   pub frozen-end : min (t .count) (length (t .views)) ≤ i → allFrozen vault listed after (drop i (recordsAt s t)) ≡ true
   unfolding allFrozen
@@ -125,3 +132,57 @@ pub frozen-alike : (vault : List ℕ) (f g : List ℕ → Bool) → ((m : List �
 unfolding allFrozen keepsFreeze
 frozen-alike vault f g alike after [] = refl
 frozen-alike vault f g alike after (r ∷ l) = rw (alike (mintOf r), frozen-alike vault f g alike after l)
+
+-- ---- mint by mint
+
+one : (vault : List ℕ) (f g : List ℕ → Bool) (after : List Record) (r : Record)
+    → keepsFreeze vault (λ (m : List ℕ). f m || g m) after r ≡ (keepsFreeze vault f after r && keepsFreeze vault g after r)
+unfolding keepsFreeze
+one vault f g after r = cases (isCounted vault r) (f (mintOf r)) (g (mintOf r)) (isFoundStill (r .payload) (firstWithKey (r .key) after))
+  where
+    cases : (c x y z : Bool) → (not (c && (x || y)) || z) ≡ ((not (c && x) || z) && (not (c && y) || z))
+    cases false x y z = refl
+    cases true true true true = refl
+    cases true true true false = refl
+    cases true true false true = refl
+    cases true true false false = refl
+    cases true false true z = refl
+    cases true false false z = refl
+
+-- what keeps the freeze of either list keeps that of both
+frozen-either : (vault : List ℕ) (f g : List ℕ → Bool) (after l : List Record)
+    → allFrozen vault (λ (m : List ℕ). f m || g m) after l ≡ (allFrozen vault f after l && allFrozen vault g after l)
+unfolding allFrozen
+frozen-either vault f g after [] = refl
+frozen-either vault f g after (r ∷ l) = rw (frozen-either vault f g after l, one vault f g after r) (shuffle (keepsFreeze vault f after r) _ _ _)
+  where
+    shuffle : (a b c d : Bool) → ((a && b) && (c && d)) ≡ ((a && c) && (b && d))
+    shuffle false b c d = refl
+    shuffle true true c d = refl
+    shuffle true false c d = sym (and-false c)
+
+-- no mint is listed
+frozen-none : (vault : List ℕ) (after l : List Record) → allFrozen vault (λ (m : List ℕ). isAmong m []) after l ≡ true
+unfolding allFrozen isAmong
+frozen-none vault after [] = refl
+frozen-none vault after (r ∷ l) = rw (not-listed-frozen vault (λ (m : List ℕ). false) after r refl) (frozen-none vault after l)
+
+module _ (vault : List ℕ) (after l : List Record) (mints : Keys) (i : ℕ) where
+  abbrev frozenFor : List (List ℕ) → Bool
+  frozenFor ks = allFrozen vault (λ (m : List ℕ). isAmong m ks) after l
+
+  module _ (d : Key) (hc : i < mints .count) (hl : i < length (mints .list)) where
+    mint-step : frozenFor (drop i (keysIn mints)) ≡ (allFrozen vault (sameKey ((getD (mints .list) i d) .bytes)) after l && frozenFor (drop (suc i) (keysIn mints)))
+    unfolding isAmong
+    mint-step =
+        ap frozenFor (keys-step mints i d hc hl)
+        ∙ frozen-either vault (sameKey ((getD (mints .list) i d) .bytes)) (λ (m : List ℕ). isAmong m (drop (suc i) (keysIn mints))) after l
+
+    pub mint-thawed : allFrozen vault (sameKey ((getD (mints .list) i d) .bytes)) after l ≡ false → frozenFor (drop i (keysIn mints)) ≡ false
+    mint-thawed e = rw e at mint-step
+
+    pub mint-kept : allFrozen vault (sameKey ((getD (mints .list) i d) .bytes)) after l ≡ true → frozenFor (drop i (keysIn mints)) ≡ frozenFor (drop (suc i) (keysIn mints))
+    mint-kept e = rw e at mint-step
+
+  pub mints-end : min (mints .count) (length (mints .list)) ≤ i → frozenFor (drop i (keysIn mints)) ≡ true
+  mints-end past = ap frozenFor (keys-end mints i past) ∙ frozen-none vault after l

@@ -32,10 +32,11 @@ use Rattle.compact.specs.declared.Parsed.{Parsed as ReadList}
 use Rattle.compact.specs.Compact.{Instruction, Read, decode, reading, placed, placedOne, entriesIn, entriesOf, refused as noList}
 use Rattle.compact.proofs.Places.{entries-held}
 use Rattle.compact.proofs.Reading.{reading-of, outcome}
-use Rattle.account.specs.declared.Table.{Table}
+use Rattle.account.specs.declared.Places.{Places}
 use Rattle.account.specs.Table.{Record, cutTable, recordsOf}
-use Rattle.account.specs.Views.{recordsAt, tableOf}
+use Rattle.account.specs.Views.{recordsAt, tableOf, placesOf, tableIn}
 use Rattle.account.proofs.Views.{records-of-table}
+use Rattle.account.proofs.InRow.{records-of-row}
 use Rattle.limit.specs.declared.Amounts.{Amounts}
 use Rattle.limit.specs.Limit.{Charge, classAnswer, settled}
 use Rattle.limit.specs.Views.{charges, chargesAt, settledViews, settledAt}
@@ -147,16 +148,18 @@ read-answer s = go (decode s) refl
     go none e = ap (λ (r : ReadList). r .answer) (reading-of s none e)
     go (some d) e = ap (λ (r : ReadList). r .answer) (reading-of s (some d) e)
 
-pub records-before : (call : Call) (t : Table) → t ≡ tableOf (cutTable (call .before)) → recordsAt (call .before) t ≡ recordsBefore call
+pub records-before : (call : Call) (p : Places) → p ≡ placesOf (tableOf (cutTable (call .before))) → recordsAt (call .before) (tableIn (p .list) (p .count)) ≡ recordsBefore call
 unfolding recordsBefore
-records-before call t e = ap (recordsAt (call .before)) e ∙ records-of-table (call .before)
+records-before call p e =
+    ap (λ (q : Places). recordsAt (call .before) (tableIn (q .list) (q .count))) e ∙ records-of-row (call .before) _ ∙ records-of-table (call .before)
 
-pub records-after : (call : Call) (t : Table) → t ≡ tableOf (cutTable (call .after)) → recordsAt (call .after) t ≡ recordsAfter call
+pub records-after : (call : Call) (p : Places) → p ≡ placesOf (tableOf (cutTable (call .after))) → recordsAt (call .after) (tableIn (p .list) (p .count)) ≡ recordsAfter call
 unfolding recordsAfter
-records-after call t e = ap (recordsAt (call .after)) e ∙ records-of-table (call .after)
+records-after call p e =
+    ap (λ (q : Places). recordsAt (call .after) (tableIn (q .list) (q .count))) e ∙ records-of-row (call .after) _ ∙ records-of-table (call .after)
 
-pub table-answer : (x : Refusable (List Record)) → tableOf x .answer ≡ answerOf x
-unfolding tableOf
+pub table-answer : (x : Refusable (List Record)) → placesOf (tableOf x) .answer ≡ answerOf x
+unfolding placesOf tableOf
 table-answer (given l) = refl
 table-answer (refused r) = refl
 

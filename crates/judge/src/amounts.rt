@@ -1,6 +1,5 @@
 // The amount that each action's rule looks at.
-use account::Table;
-use account::tokens::balance;
+use account::tokens::balance_in;
 use action::ActionView;
 use action::MAX_ACTIONS;
 use action::Parsed;
@@ -13,7 +12,7 @@ use number::floored_difference;
 ghost use mathlib.Core.Path.{_≡_};
 ghost use mathlib.Core.List.{map};
 ghost use Rattle.account.specs.Tokens.{balance as balanceOf};
-ghost use Rattle.account.specs.Views.{recordsAt};
+ghost use Rattle.account.specs.Views.{recordsAt, tableIn};
 ghost use Rattle.action.specs.Views.{actionAt, actionsAt};
 ghost use Rattle.judge.specs.Judge.{decrease};
 ghost use Rattle.judge.specs.Views.{amountFrom, amountsOf};
@@ -21,16 +20,18 @@ ghost use Rattle.judge.specs.Views.{amountFrom, amountsOf};
 // How much the vault's balance of a mint went down.
 fn token_decrease(
     before: &[u8],
-    before_cut: Table,
+    before_list: &[usize],
+    before_count: usize,
     after: &[u8],
-    after_cut: Table,
+    after_list: &[usize],
+    after_count: usize,
     vault: &[u8],
     mint: &[u8],
 ) -> u64
-    ensures { λ r. ⌜ r ≡ decrease (balanceOf (now (vault .entry)) (now (mint .entry)) (recordsAt (now (before .entry)) «before_cut»)) (balanceOf (now (vault .entry)) (now (mint .entry)) (recordsAt (now (after .entry)) «after_cut»)) ⌝ }
+    ensures { λ r. ⌜ r ≡ decrease (balanceOf (now (vault .entry)) (now (mint .entry)) (recordsAt (now (before .entry)) (tableIn (now («before_list» .entry)) «before_count»))) (balanceOf (now (vault .entry)) (now (mint .entry)) (recordsAt (now (after .entry)) (tableIn (now («after_list» .entry)) «after_count»))) ⌝ }
 {
-    let had = balance(before, before_cut, vault, mint);
-    let has = balance(after, after_cut, vault, mint);
+    let had = balance_in(before, before_list, before_count, vault, mint);
+    let has = balance_in(after, after_list, after_count, vault, mint);
     floored_difference(had, has)
 }
 
@@ -38,21 +39,25 @@ fn amount_for(
     region: &[u8],
     view: ActionView,
     before: &[u8],
-    before_cut: Table,
+    before_list: &[usize],
+    before_count: usize,
     after: &[u8],
-    after_cut: Table,
+    after_list: &[usize],
+    after_count: usize,
     vault: &[u8],
     sol: u64,
     gross: u64,
 ) -> u64
-    ensures { λ r. ⌜ r ≡ amountFrom (now (vault .entry)) (recordsAt (now (before .entry)) «before_cut») (recordsAt (now (after .entry)) «after_cut») sol gross (actionAt (now (region .entry)) view) ⌝ }
+    ensures { λ r. ⌜ r ≡ amountFrom (now (vault .entry)) (recordsAt (now (before .entry)) (tableIn (now («before_list» .entry)) «before_count»)) (recordsAt (now (after .entry)) (tableIn (now («after_list» .entry)) «after_count»)) sol gross (actionAt (now (region .entry)) view) ⌝ }
 {
     if is_token(view.kind) {
         return token_decrease(
             before,
-            before_cut,
+            before_list,
+            before_count,
             after,
-            after_cut,
+            after_list,
+            after_count,
             vault,
             key_of(region, view),
         );
@@ -68,14 +73,16 @@ pub fn amounts(
     region: &[u8],
     parsed: Parsed,
     before: &[u8],
-    before_cut: Table,
+    before_list: &[usize],
+    before_count: usize,
     after: &[u8],
-    after_cut: Table,
+    after_list: &[usize],
+    after_count: usize,
     vault: &[u8],
     sol: u64,
     gross: u64,
 ) -> Amounts
-    ensures { λ r. ⌜ r ≡ amountsOf (map (amountFrom (now (vault .entry)) (recordsAt (now (before .entry)) «before_cut») (recordsAt (now (after .entry)) «after_cut») sol gross) (actionsAt (now (region .entry)) parsed)) ⌝ }
+    ensures { λ r. ⌜ r ≡ amountsOf (map (amountFrom (now (vault .entry)) (recordsAt (now (before .entry)) (tableIn (now («before_list» .entry)) «before_count»)) (recordsAt (now (after .entry)) (tableIn (now («after_list» .entry)) «after_count»)) sol gross) (actionsAt (now (region .entry)) parsed)) ⌝ }
 {
     let n = counted(parsed);
     let mut list = [0u64; MAX_ACTIONS];
@@ -86,9 +93,11 @@ pub fn amounts(
             region,
             view,
             before,
-            before_cut,
+            before_list,
+            before_count,
             after,
-            after_cut,
+            after_list,
+            after_count,
             vault,
             sol,
             gross,

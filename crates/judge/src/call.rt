@@ -2,8 +2,7 @@
 use crate::amounts::amounts;
 use crate::freeze::verify_token_authorities_unchanged;
 use crate::programs::evaluate_pre_actions;
-use account::Table;
-use account::parse::cut_table;
+use account::parse::cut_places;
 use action::Parsed;
 use action::form::stored_actions;
 use action::mints::listed_mints;
@@ -22,7 +21,7 @@ ghost use mathlib.Core.Path.{_≡_};
 ghost use mathlib.Core.Bool.{cond};
 ghost use mathlib.Core.List.{map};
 ghost use Rattle.answer.specs.Numbers.{accepts};
-ghost use Rattle.account.specs.Views.{recordsAt};
+ghost use Rattle.account.specs.Views.{recordsAt, tableIn};
 ghost use Rattle.action.specs.Views.{actionsAt};
 ghost use Rattle.limit.specs.Views.{chargesAt, settledAt};
 ghost use Rattle.judge.specs.Judge.{judged, regionAfter};
@@ -32,15 +31,26 @@ fn frozen(
     region: &[u8],
     parsed: Parsed,
     before: &[u8],
-    before_cut: Table,
+    before_list: &[usize],
+    before_count: usize,
     after: &[u8],
-    after_cut: Table,
+    after_list: &[usize],
+    after_count: usize,
     vault: &[u8],
 ) -> bool
-    ensures { λ r. ⌜ r ≡ frozenFrom (now (vault .entry)) (recordsAt (now (before .entry)) «before_cut») (recordsAt (now (after .entry)) «after_cut») (actionsAt (now (region .entry)) parsed) ⌝ }
+    ensures { λ r. ⌜ r ≡ frozenFrom (now (vault .entry)) (recordsAt (now (before .entry)) (tableIn (now («before_list» .entry)) «before_count»)) (recordsAt (now (after .entry)) (tableIn (now («after_list» .entry)) «after_count»)) (actionsAt (now (region .entry)) parsed) ⌝ }
 {
     let mints = listed_mints(region, parsed);
-    verify_token_authorities_unchanged(before, before_cut, after, after_cut, vault, mints)
+    verify_token_authorities_unchanged(
+        before,
+        before_list,
+        before_count,
+        after,
+        after_list,
+        after_count,
+        vault,
+        mints,
+    )
 }
 
 // Steps 5 and 6: the programs and the freeze.
@@ -48,20 +58,40 @@ fn checks_answer(
     region: &[u8],
     parsed: Parsed,
     before: &[u8],
-    before_cut: Table,
+    before_list: &[usize],
+    before_count: usize,
     after: &[u8],
-    after_cut: Table,
+    after_list: &[usize],
+    after_count: usize,
     entries: Entries,
     vault: &[u8],
     slot: u64,
 ) -> Answer
-    ensures { λ r. ⌜ r ≡ checksFrom slot (now (vault .entry)) (recordsAt (now (before .entry)) «before_cut») (recordsAt (now (after .entry)) «after_cut») (programsIn entries) (actionsAt (now (region .entry)) parsed) ⌝ }
+    ensures { λ r. ⌜ r ≡ checksFrom slot (now (vault .entry)) (recordsAt (now (before .entry)) (tableIn (now («before_list» .entry)) «before_count»)) (recordsAt (now (after .entry)) (tableIn (now («after_list» .entry)) «after_count»)) (programsIn entries) (actionsAt (now (region .entry)) parsed) ⌝ }
 {
-    let programs = evaluate_pre_actions(region, parsed, before, before_cut, entries, slot);
+    let programs = evaluate_pre_actions(
+        region,
+        parsed,
+        before,
+        before_list,
+        before_count,
+        entries,
+        slot,
+    );
     if !programs.accepts() {
         return programs;
     }
-    if !frozen(region, parsed, before, before_cut, after, after_cut, vault) {
+    if !frozen(
+        region,
+        parsed,
+        before,
+        before_list,
+        before_count,
+        after,
+        after_list,
+        after_count,
+        vault,
+    ) {
         return Answer::of(SESSION_TOKEN_AUTHORITY_CHANGED);
     }
     Answer::of(ACCEPTED)
@@ -83,16 +113,18 @@ fn judge_cut(
     region: &mut [u8],
     parsed: Parsed,
     before: &[u8],
-    before_cut: Table,
+    before_list: &[usize],
+    before_count: usize,
     after: &[u8],
-    after_cut: Table,
+    after_list: &[usize],
+    after_count: usize,
     entries: Entries,
     vault: &[u8],
     slot: u64,
     sol: u64,
     gross: u64,
 ) -> Answer
-    ensures { λ r. ⌜ (r ≡ rulesFrom slot (now (vault .entry)) (recordsAt (now (before .entry)) «before_cut») (recordsAt (now (after .entry)) «after_cut») (programsIn entries) (chargesAt (now (region .entry)) parsed (amountsOf (map (amountFrom (now (vault .entry)) (recordsAt (now (before .entry)) «before_cut») (recordsAt (now (after .entry)) «after_cut») sol gross) (actionsAt (now (region .entry)) parsed)))) (actionsAt (now (region .entry)) parsed)) × (now (region .exit) ≡ cond (accepts r) (settledAt slot parsed (amountsOf (map (amountFrom (now (vault .entry)) (recordsAt (now (before .entry)) «before_cut») (recordsAt (now (after .entry)) «after_cut») sol gross) (actionsAt (now (region .entry)) parsed))) (now (region .entry))) (now (region .entry))) ⌝ }
+    ensures { λ r. ⌜ (r ≡ rulesFrom slot (now (vault .entry)) (recordsAt (now (before .entry)) (tableIn (now («before_list» .entry)) «before_count»)) (recordsAt (now (after .entry)) (tableIn (now («after_list» .entry)) «after_count»)) (programsIn entries) (chargesAt (now (region .entry)) parsed (amountsOf (map (amountFrom (now (vault .entry)) (recordsAt (now (before .entry)) (tableIn (now («before_list» .entry)) «before_count»)) (recordsAt (now (after .entry)) (tableIn (now («after_list» .entry)) «after_count»)) sol gross) (actionsAt (now (region .entry)) parsed)))) (actionsAt (now (region .entry)) parsed)) × (now (region .exit) ≡ cond (accepts r) (settledAt slot parsed (amountsOf (map (amountFrom (now (vault .entry)) (recordsAt (now (before .entry)) (tableIn (now («before_list» .entry)) «before_count»)) (recordsAt (now (after .entry)) (tableIn (now («after_list» .entry)) «after_count»)) sol gross) (actionsAt (now (region .entry)) parsed))) (now (region .entry))) (now (region .entry))) ⌝ }
 {
     if parsed.count == 0 {
         return Answer::of(ACCEPTED);
@@ -101,9 +133,11 @@ fn judge_cut(
         region,
         parsed,
         before,
-        before_cut,
+        before_list,
+        before_count,
         after,
-        after_cut,
+        after_list,
+        after_count,
         entries,
         vault,
         slot,
@@ -115,9 +149,11 @@ fn judge_cut(
         region,
         parsed,
         before,
-        before_cut,
+        before_list,
+        before_count,
         after,
-        after_cut,
+        after_list,
+        after_count,
         vault,
         sol,
         gross,
@@ -147,11 +183,11 @@ pub fn judge(
     if vault.len() != KEY_LENGTH {
         return Answer::of(BAD_TABLE);
     }
-    let before_cut = cut_table(before);
+    let before_cut = cut_places(before);
     if !before_cut.answer.accepts() {
         return before_cut.answer;
     }
-    let after_cut = cut_table(after);
+    let after_cut = cut_places(after);
     if !after_cut.answer.accepts() {
         return after_cut.answer;
     }
@@ -168,9 +204,11 @@ pub fn judge(
         region,
         parsed,
         before,
-        before_cut,
+        &before_cut.list,
+        before_cut.count,
         after,
-        after_cut,
+        &after_cut.list,
+        after_cut.count,
         read.entries,
         vault,
         slot,

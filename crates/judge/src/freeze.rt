@@ -1,20 +1,22 @@
 // Step 6: the authorities of the vault's token accounts of listed mints stay as they were.
 use account::RecordView;
-use account::Table;
+use account::fields::counted_in;
 use account::fields::record_key;
 use account::fields::record_payload;
-use account::parse::records_counted;
+use account::fields::view_in;
 use account::tokens::is_counted;
 use account::tokens::is_token_account;
 use account::tokens::mint_of;
 use key::KEY_LENGTH;
+use key::Key;
 use key::Keys;
+use key::MAX_KEYS;
 ghost use mathlib.Core.Path.{_≡_};
 ghost use mathlib.Core.List.{List};
 ghost use Prim.Native.Nat.{ℕ};
 ghost use lib.ListN.{take, drop};
-ghost use Rattle.key.specs.Key.{isAmong, keysIn};
-ghost use Rattle.account.specs.Views.{recordAt, recordsAt};
+ghost use Rattle.key.specs.Key.{sameKey, isAmong, keysIn};
+ghost use Rattle.account.specs.Views.{recordAt, recordsAt, tableIn};
 ghost use Rattle.judge.specs.Freeze.{firstWithKey, samePart, sameAuthorities, isStill, isFoundStill, keepsFreeze, allFrozen};
 
 const OWNER_OFFSET: usize = 32;
@@ -67,13 +69,13 @@ fn is_still(payload: &[u8], table: &[u8], view: RecordView) -> bool
 }
 
 // Whether the first record with the key is still that account.
-fn still_there(payload: &[u8], key: &[u8], table: &[u8], cut: Table) -> bool
-    ensures { λ r. ⌜ r ≡ isFoundStill (now (payload .entry)) (firstWithKey (now (key .entry)) (recordsAt (now (table .entry)) cut)) ⌝ }
+fn still_there(payload: &[u8], key: &[u8], table: &[u8], list: &[usize], count: usize) -> bool
+    ensures { λ r. ⌜ r ≡ isFoundStill (now (payload .entry)) (firstWithKey (now (key .entry)) (recordsAt (now (table .entry)) (tableIn (now (list .entry)) count))) ⌝ }
 {
-    let n = records_counted(cut.count);
+    let n = counted_in(list, count);
     let mut i = 0;
     while i < n {
-        let view = cut.views[i];
+        let view = view_in(list, i);
         if key::same_key(record_key(table, view), key) {
             return is_still(payload, table, view);
         }
@@ -86,38 +88,104 @@ fn keeps_freeze(
     before: &[u8],
     view: RecordView,
     after: &[u8],
-    cut: Table,
+    list: &[usize],
+    count: usize,
     vault: &[u8],
-    mints: Keys,
+    mint: &[u8],
 ) -> bool
-    ensures { λ r. ⌜ r ≡ keepsFreeze (now (vault .entry)) (λ (mint : List ℕ). isAmong mint (keysIn mints)) (recordsAt (now (after .entry)) cut) (recordAt (now (before .entry)) view) ⌝ }
+    ensures { λ r. ⌜ r ≡ keepsFreeze (now (vault .entry)) (sameKey (now (mint .entry))) (recordsAt (now (after .entry)) (tableIn (now (list .entry)) count)) (recordAt (now (before .entry)) view) ⌝ }
 {
+    if !key::same_key(mint, mint_of(before, view)) {
+        return true;
+    }
     if !is_counted(before, view, vault) {
         return true;
     }
-    if !mints.holds(mint_of(before, view)) {
-        return true;
-    }
     let payload = record_payload(before, view);
-    still_there(payload, record_key(before, view), after, cut)
+    still_there(payload, record_key(before, view), after, list, count)
 }
 
-// Whether each counted account of the table before whose mint is listed is still there after.
+// Whether each counted account of the table before that has the mint is still there after.
+fn mint_frozen(
+    before: &[u8],
+    before_list: &[usize],
+    before_count: usize,
+    after: &[u8],
+    after_list: &[usize],
+    after_count: usize,
+    vault: &[u8],
+    mint: &[u8],
+) -> bool
+    ensures { λ r. ⌜ r ≡ allFrozen (now (vault .entry)) (sameKey (now (mint .entry))) (recordsAt (now (after .entry)) (tableIn (now («after_list» .entry)) «after_count»)) (recordsAt (now (before .entry)) (tableIn (now («before_list» .entry)) «before_count»)) ⌝ }
+{
+    let n = counted_in(before_list, before_count);
+    let mut i = 0;
+    while i < n {
+        let view = view_in(before_list, i);
+        if !keeps_freeze(before, view, after, after_list, after_count, vault, mint) {
+            return false;
+        }
+        i += 1;
+    }
+    true
+}
+
+fn key_frozen(
+    before: &[u8],
+    before_list: &[usize],
+    before_count: usize,
+    after: &[u8],
+    after_list: &[usize],
+    after_count: usize,
+    vault: &[u8],
+    key: Key,
+) -> bool
+    ensures { λ r. ⌜ r ≡ allFrozen (now (vault .entry)) (sameKey (key .bytes)) (recordsAt (now (after .entry)) (tableIn (now («after_list» .entry)) «after_count»)) (recordsAt (now (before .entry)) (tableIn (now («before_list» .entry)) «before_count»)) ⌝ }
+{
+    let mint = key.bytes;
+    mint_frozen(
+        before,
+        before_list,
+        before_count,
+        after,
+        after_list,
+        after_count,
+        vault,
+        &mint,
+    )
+}
+
+// Whether each counted account of the table before whose mint is listed is still there after, mint by
+// mint: the list is not handed on.
 pub fn verify_token_authorities_unchanged(
     before: &[u8],
-    before_cut: Table,
+    before_list: &[usize],
+    before_count: usize,
     after: &[u8],
-    after_cut: Table,
+    after_list: &[usize],
+    after_count: usize,
     vault: &[u8],
     mints: Keys,
 ) -> bool
-    ensures { λ r. ⌜ r ≡ allFrozen (now (vault .entry)) (λ (mint : List ℕ). isAmong mint (keysIn mints)) (recordsAt (now (after .entry)) «after_cut») (recordsAt (now (before .entry)) «before_cut») ⌝ }
+    ensures { λ r. ⌜ r ≡ allFrozen (now (vault .entry)) (λ (mint : List ℕ). isAmong mint (keysIn mints)) (recordsAt (now (after .entry)) (tableIn (now («after_list» .entry)) «after_count»)) (recordsAt (now (before .entry)) (tableIn (now («before_list» .entry)) «before_count»)) ⌝ }
 {
-    let n = records_counted(before_cut.count);
+    let count = mints.count;
     let mut i = 0;
-    while i < n {
-        let view = before_cut.views[i];
-        if !keeps_freeze(before, view, after, after_cut, vault, mints) {
+    while i < MAX_KEYS {
+        if count <= i {
+            return true;
+        }
+        let k = mints.list[i];
+        if !key_frozen(
+            before,
+            before_list,
+            before_count,
+            after,
+            after_list,
+            after_count,
+            vault,
+            k,
+        ) {
             return false;
         }
         i += 1;

@@ -1,6 +1,7 @@
 // Step 5: each instruction's program against the lists.
-use account::Table;
-use account::indexes::key_at;
+use account::fields::counted_in;
+use account::fields::record_key;
+use account::fields::view_in;
 use action::ActionView;
 use action::PROGRAM_BLACKLIST;
 use action::PROGRAM_WHITELIST;
@@ -25,7 +26,7 @@ ghost use Rattle.action.specs.Region.{expired, programWhitelist};
 ghost use Rattle.action.specs.Creation.{howOften};
 ghost use Rattle.action.specs.Fields.{keyOf};
 ghost use Rattle.action.specs.Views.{actionAt, actionsAt, kindsIn};
-ghost use Rattle.account.specs.Views.{recordsAt};
+ghost use Rattle.account.specs.Views.{recordsAt, tableIn};
 ghost use Rattle.judge.specs.Programs.{inLiveList, listsAnswer, programAnswer, programsAnswer};
 ghost use Rattle.judge.specs.Views.{programsIn};
 
@@ -82,21 +83,23 @@ fn program_answer(
     region: &[u8],
     parsed: Parsed,
     table: &[u8],
-    cut: Table,
+    list: &[usize],
+    count: usize,
     slot: u64,
     program: u8,
 ) -> Answer
-    ensures { λ r. ⌜ r ≡ programAnswer slot (actionsAt (now (region .entry)) parsed) (recordsAt (now (table .entry)) cut) program ⌝ }
+    ensures { λ r. ⌜ r ≡ programAnswer slot (actionsAt (now (region .entry)) parsed) (recordsAt (now (table .entry)) (tableIn (now (list .entry)) count)) program ⌝ }
 {
     let index = program as usize;
-    let count = cut.count;
-    if count <= index {
+    if counted_in(list, count) <= index {
         return Answer::of(INVALID_INSTRUCTION_DATA);
     }
-    if account::MAX_RECORDS <= index {
-        return Answer::of(INVALID_INSTRUCTION_DATA);
-    }
-    lists_answer(region, parsed, slot, key_at(table, cut, index))
+    lists_answer(
+        region,
+        parsed,
+        slot,
+        record_key(table, view_in(list, index)),
+    )
 }
 
 // How many entries there are to look at, whatever the count says.
@@ -115,17 +118,18 @@ pub fn evaluate_pre_actions(
     region: &[u8],
     parsed: Parsed,
     table: &[u8],
-    cut: Table,
+    list: &[usize],
+    count: usize,
     entries: Entries,
     slot: u64,
 ) -> Answer
-    ensures { λ r. ⌜ r ≡ programsAnswer slot (actionsAt (now (region .entry)) parsed) (recordsAt (now (table .entry)) cut) (programsIn entries) ⌝ }
+    ensures { λ r. ⌜ r ≡ programsAnswer slot (actionsAt (now (region .entry)) parsed) (recordsAt (now (table .entry)) (tableIn (now (list .entry)) count)) (programsIn entries) ⌝ }
 {
     let n = entries_counted(entries);
     let mut i = 0;
     while i < n {
         let entry = entries.list[i];
-        let answer = program_answer(region, parsed, table, cut, slot, entry.program);
+        let answer = program_answer(region, parsed, table, list, count, slot, entry.program);
         if !answer.accepts() {
             return answer;
         }

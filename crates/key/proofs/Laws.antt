@@ -42,13 +42,25 @@ pub right-no-key : (a b : List ℕ) → (length b ≡ 32 → ⊥) → sameKey a 
 unfolding sameKey
 right-no-key a b h = rw (ne-eqb _ _ h, and-false)
 
-among-step : (key : List ℕ) (l : Keys) (i : ℕ) (d : Key) → i < l .count → i < length (l .list)
-    → isAmong key (drop i (keysIn l)) ≡ (sameKey ((getD (l .list) i d) .bytes) key || isAmong key (drop (suc i) (keysIn l)))
-unfolding isAmong keysIn
-among-step key l i d hc hl =
+-- the keys of a list, one after the other
+pub keys-step : (l : Keys) (i : ℕ) (d : Key) → i < l .count → i < length (l .list) → drop i (keysIn l) ≡ (getD (l .list) i d) .bytes ∷ drop (suc i) (keysIn l)
+unfolding keysIn
+keys-step l i d hc hl =
     let all = map (λ (k : Key). k .bytes) (l .list) in
     let inside : i < length (take (l .count) all) = simp (length-take, length-map) (omega arith) in
     rw (drop-cons (take (l .count) all) i (d .bytes), getD-take (l .count) all i (d .bytes), List·getD-map (λ (k : Key). k .bytes) (l .list) i d)
+
+pub keys-end : (l : Keys) (i : ℕ) → min (l .count) (length (l .list)) ≤ i → drop i (keysIn l) ≡ []
+unfolding keysIn
+keys-end l i h =
+    let all = map (λ (k : Key). k .bytes) (l .list) in
+    let past : length (take (l .count) all) ≤ i = simp (length-take, length-map) h in
+    drop-of-length-le (take (l .count) all) past
+
+among-step : (key : List ℕ) (l : Keys) (i : ℕ) (d : Key) → i < l .count → i < length (l .list)
+    → isAmong key (drop i (keysIn l)) ≡ (sameKey ((getD (l .list) i d) .bytes) key || isAmong key (drop (suc i) (keysIn l)))
+unfolding isAmong
+among-step key l i d hc hl = ap (isAmong key) (keys-step l i d hc hl)
 
 module _ (key : List ℕ) (l : Keys) (i : ℕ) (d : Key) (hc : i < l .count) (hl : i < length (l .list)) where
   pub among-found : sameKey ((getD (l .list) i d) .bytes) key ≡ true → isAmong key (drop i (keysIn l)) ≡ true
@@ -58,11 +70,8 @@ module _ (key : List ℕ) (l : Keys) (i : ℕ) (d : Key) (hc : i < l .count) (hl
   among-passed e = rw e at (among-step key l i d hc hl)
 
 pub among-end : (key : List ℕ) (l : Keys) (i : ℕ) → min (l .count) (length (l .list)) ≤ i → isAmong key (drop i (keysIn l)) ≡ false
-unfolding isAmong keysIn
-among-end key l i h =
-    let all = map (λ (k : Key). k .bytes) (l .list) in
-    let past : length (take (l .count) all) ≤ i = simp (length-take, length-map) h in
-    rw (drop-of-length-le (take (l .count) all) past)
+unfolding isAmong
+among-end key l i h = ap (isAmong key) (keys-end l i h)
 
 module _ (l : Keys) (key : List ℕ) where
   pub with-full : 16 ≤ l .count → withKey l key ≡ l

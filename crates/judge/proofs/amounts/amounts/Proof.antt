@@ -5,7 +5,7 @@ use mathlib.Core.Path.{_≡_, refl, sym, ap, _∙_}
 use native.Mathlib.Numerals.{add-one}
 use native.Mathlib.Omega.{arith}
 use lib.ListN.{length, length-map}
-use Rattle.account.specs.Views.{recordsAt}
+use Rattle.account.specs.Views.{recordsAt, tableIn}
 use Rattle.action.specs.Views.{actionsAt}
 use Rattle.action.proofs.Views.{length-actions}
 use Rattle.judge.specs.Views.{amountFrom}
@@ -14,11 +14,11 @@ use Rattle.judge.proofs.amounts.amounts.Statement.{statement}
 use Rattle.judge.proofs.amounts.amounts.Tie as tie
 
 abbrev Inv-loop : tie.InvT-loop
-Inv-loop region before before-cut after after-cut vault sol gross parsed n list₀ i₀ list i =
-    (i ≤ n) × (n ≡ min (parsed .count) 16) × (list ≡ laid (amountFrom vault (recordsAt before before-cut) (recordsAt after after-cut) sol gross) region parsed i)
+Inv-loop region before before-list before-count after after-list after-count vault sol gross parsed n list₀ i₀ list i =
+    (i ≤ n) × (n ≡ min (parsed .count) 16) × (list ≡ laid (amountFrom vault (recordsAt before (tableIn before-list before-count)) (recordsAt after (tableIn after-list after-count)) sol gross) region parsed i)
 
 abbrev μ-loop : tie.MeasureT-loop
-μ-loop region before before-cut after after-cut vault sol gross parsed n list₀ i₀ list i = n - i
+μ-loop region before before-list before-count after after-list after-count vault sol gross parsed n list₀ i₀ list i = n - i
 
 counted-requires : tie.Need-counted-requires Inv-loop μ-loop
 counted-requires c κs = tt
@@ -51,7 +51,7 @@ loop-again : tie.Need-loop-again Inv-loop μ-loop
 loop-again c =
     let at-loop = c .before .before .before in
     let i = at-loop .loop .i in
-    let start = at-loop .before .before .before .before .before .before in
+    let start = at-loop .before .before .before .before .before .before .before .before in
     let parsed = start .args .t2 in
     let long : length (parsed .views) ≡ 16 = simp length-map at (start .good .1 .0 .1 .1 .1 .0 .1 .0 .1) in (
       omega arith,
@@ -62,7 +62,7 @@ loop-again c =
 returns : tie.Need-returns Inv-loop μ-loop
 returns c =
     let at-loop = c .before in
-    let start = at-loop .before .before .before .before .before .before in
+    let start = at-loop .before .before .before .before .before .before .before .before in
     let region = start .args .region .now in
     let parsed = start .args .t2 in
     let long : length (parsed .views) ≡ 16 = simp length-map at (start .good .1 .0 .1 .1 .1 .0 .1 .0 .1) in

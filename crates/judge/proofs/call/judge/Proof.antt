@@ -14,7 +14,7 @@ use Rattle.action.specs.declared.Parsed.{Parsed}
 use Rattle.action.specs.Creation.{storedActions}
 use Rattle.compact.specs.declared.Parsed.{Parsed as ReadList}
 use Rattle.compact.specs.Compact.{decode}
-use Rattle.account.specs.declared.Table.{Table}
+use Rattle.account.specs.declared.Places.{Places}
 use Rattle.account.specs.Table.{cutTable}
 use Rattle.judge.specs.Judge.{Call, answerOf, readAnswer}
 use Rattle.judge.specs.Views.{programsIn}
@@ -44,10 +44,10 @@ abbrev start-1 : tie.Else1 → tie.Start
 start-1 c = c .before .before .before .before .before .before
 
 abbrev one-of : tie.Else2 → tie.Else1
-one-of c = c .before .before .before
+one-of c = c .before .before .before .before
 
 abbrev two-of : tie.Else3 → tie.Else2
-two-of c = c .before .before .before
+two-of c = c .before .before .before .before
 
 abbrev three-of : tie.Else4 → tie.Else3
 three-of c = c .before .before .before
@@ -60,17 +60,17 @@ four-of c = c .before .before .before .before
 vault-is : (c : tie.Else1) → length (call-of (start-1 c) .vault) ≡ 32
 vault-is c = omega arith
 
-before-is : (c : tie.After-cut-table) → c .cut-table .result .answer ≡ answerOf (cutTable (call-of (start-1 (c .before)) .before))
-before-is c = ap (λ (t : Table). t .answer) (c .cut-table .ensures) ∙ table-answer _
+before-is : (c : tie.After-cut-places) → c .cut-places .result .answer ≡ answerOf (cutTable (call-of (start-1 (c .before)) .before))
+before-is c = ap (λ (p : Places). p .answer) (c .cut-places .ensures) ∙ table-answer _
 
 before-sound : (c : tie.Else2) → accepts (answerOf (cutTable (call-of (start-1 (one-of c)) .before))) ≡ true
-before-sound c = sym (ap accepts (before-is (c .before .before))) ∙ sym (c .before .accepts .ensures) ∙ not-false _ (c .if2 .left)
+before-sound c = sym (ap accepts (before-is (c .before .before .before))) ∙ sym (c .before .accepts .ensures) ∙ not-false _ (c .if2 .left)
 
-after-is : (c : tie.After-cut-table2) → c .cut-table2 .result .answer ≡ answerOf (cutTable (call-of (start-1 (one-of (c .before))) .after))
-after-is c = ap (λ (t : Table). t .answer) (c .cut-table2 .ensures) ∙ table-answer _
+after-is : (c : tie.After-cut-places2) → c .cut-places2 .result .answer ≡ answerOf (cutTable (call-of (start-1 (one-of (c .before))) .after))
+after-is c = ap (λ (p : Places). p .answer) (c .cut-places2 .ensures) ∙ table-answer _
 
 after-sound : (c : tie.Else3) → accepts (answerOf (cutTable (call-of (start-1 (one-of (two-of c))) .after))) ≡ true
-after-sound c = sym (ap accepts (after-is (c .before .before))) ∙ sym (c .before .accepts2 .ensures) ∙ not-false _ (c .if3 .left)
+after-sound c = sym (ap accepts (after-is (c .before .before .before))) ∙ sym (c .before .accepts2 .ensures) ∙ not-false _ (c .if3 .left)
 
 read-is : (c : tie.After-parse-compact-instructions)
     → c .parse-compact-instructions .result .answer ≡ readAnswer (decode (call-of (start-1 (one-of (two-of (c .before)))) .instructions))
@@ -97,8 +97,8 @@ returns c =
     let refusal = vault-refused (region-of start) (call-of start) (omega arith) in
     (c .of .ensures ∙ refusal .0, refusal .1)
 
-cut-table-requires : tie.Need-cut-table-requires
-cut-table-requires c κs = search needs
+cut-places-requires : tie.Need-cut-places-requires
+cut-places-requires c κs = search needs
 
 accepts-requires : tie.Need-accepts-requires
 accepts-requires c κs = search needs
@@ -106,14 +106,14 @@ accepts-requires c κs = search needs
 returns-2 : tie.Need-returns-2
 returns-2 c =
     let asked = c .before .before in
-    let cut = asked .before in
+    let cut = asked .before .before in
     let one = cut .before in
     let start = start-1 one in
     let refusal = before-refused (region-of start) (call-of start) (vault-is one) (sym (ap accepts (before-is cut)) ∙ sym (asked .accepts .ensures) ∙ not-true _ (c .before .if2 .taken)) in
     (before-is cut ∙ refusal .0, refusal .1)
 
-cut-table-requires-2 : tie.Need-cut-table-requires-2
-cut-table-requires-2 c κs = search needs
+cut-places-requires-2 : tie.Need-cut-places-requires-2
+cut-places-requires-2 c κs = search needs
 
 accepts-requires-2 : tie.Need-accepts-requires-2
 accepts-requires-2 c κs = search needs
@@ -121,7 +121,7 @@ accepts-requires-2 c κs = search needs
 returns-3 : tie.Need-returns-3
 returns-3 c =
     let asked = c .before .before in
-    let cut = asked .before in
+    let cut = asked .before .before in
     let two = cut .before in
     let one = one-of two in
     let start = start-1 one in
@@ -178,7 +178,7 @@ same-length-2 c = search needs
 returns-6 : tie.Need-returns-6
 returns-6 c =
     let judged = c .before .before in
-    let five = judged .before .before .before in
+    let five = judged .before .before .before .before .before .before .before .before .before in
     let four = four-of five in
     let three = three-of four in
     let two = two-of three in
@@ -190,8 +190,8 @@ returns-6 c =
     let programs = ap (λ (p : ReadList). programsIn (p .entries)) (four .before .before .parse-compact-instructions .ensures) ∙ programs-read _ in
     judged-cut (region-of start) call (vault-is one) (before-sound two) (after-sound three) (read-sound four) (region-sound five) bytes _ _ _ _ _ _ _
     (five .before .before .stored-actions .ensures)
-    (records-before call _ (two .before .before .cut-table .ensures)) (records-after call _ (three .before .before .cut-table2 .ensures)) programs
-    (judged .before .before .floored-difference .ensures ∙ decreased _ _ _ _ refl refl)
+    (records-before call _ (two .before .before .before .cut-places .ensures)) (records-after call _ (three .before .before .before .cut-places2 .ensures)) programs
+    (judged .before .before .before .before .before .before .before .before .floored-difference .ensures ∙ decreased _ _ _ _ refl refl)
     (judged .judge-cut .ensures .0) (judged .judge-cut .ensures .1)
 
 pub judge-spec : {M : Type 1} → statement M
@@ -200,10 +200,10 @@ judge-spec =
     (tie.spec
     of-requires
     returns
-    cut-table-requires
+    cut-places-requires
     accepts-requires
     returns-2
-    cut-table-requires-2
+    cut-places-requires-2
     accepts-requires-2
     returns-3
     parse-compact-instructions-requires

@@ -19,7 +19,7 @@ of-requires c κs = search needs
 
 returns : tie.Need-returns
 returns c =
-    let start = c .before .before .before .before .before .before .before in
+    let start = c .before .before .before .before .before .before .before .before .before in
     let region = start .args .region .now in
     let parsed = start .args .parsed in
     let none : length (actionsAt region parsed) ≤ 0 = rw (length-actions region parsed) (omega arith) in
@@ -37,7 +37,7 @@ same-length c = search needs
 returns-2 : tie.Need-returns-2
 returns-2 c =
     let checks = c .before .before in
-    let start = checks .before .before .before .before .before .before .before .before in
+    let start = checks .before .before .before .before .before .before .before .before .before .before in
     let region = start .args .region .now in
     let parsed = start .args .parsed in
     let long : length (parsed .views) ≡ 16 = simp length-map at (start .good .1 .0 .1 .1 .1 .0 .1 .0 .1) in
@@ -65,7 +65,7 @@ returns-3 c =
     let amounts = limits .before .before in
     let passed = amounts .before .before in
     let checks = passed .before .before in
-    let start = checks .before .before .before .before .before .before .before .before in
+    let start = checks .before .before .before .before .before .before .before .before .before .before in
     let region = start .args .region .now in
     let parsed = start .args .parsed in
     let long : length (parsed .views) ≡ 16 = simp length-map at (start .good .1 .0 .1 .1 .1 .0 .1 .0 .1) in
@@ -93,7 +93,7 @@ returns-4 c =
     let amounts = limits .before .before in
     let passed = amounts .before .before in
     let checks = passed .before .before in
-    let start = checks .before .before .before .before .before .before .before .before in
+    let start = checks .before .before .before .before .before .before .before .before .before .before in
     let region = start .args .region .now in
     let parsed = start .args .parsed in
     let long : length (parsed .views) ≡ 16 = simp length-map at (start .good .1 .0 .1 .1 .1 .0 .1 .0 .1) in

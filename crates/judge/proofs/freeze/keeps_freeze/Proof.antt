@@ -1,34 +1,33 @@
--- `judge::freeze::keeps_freeze` meets its contract: only a counted account of a listed mint is frozen.
+-- `judge::freeze::keeps_freeze` meets its contract: only a counted account of the mint is frozen.
 -- Assumes nothing.
 use mathlib.Core.Path.{_≡_, refl, sym, ap, _∙_}
 use borrow.Author.Tests.{not-true, not-false}
 use Prim.Native.Nat.{ℕ}
 use mathlib.Core.List.{List}
-use Rattle.key.specs.Key.{isAmong, keysIn}
+use Rattle.key.specs.Key.{sameKey}
 use Rattle.judge.proofs.Freezing.{not-counted-frozen, not-listed-frozen, listed-frozen}
 use borrow.Author.Needs.{needs}
 use Rattle.judge.proofs.freeze.keeps_freeze.Statement.{statement}
 use Rattle.judge.proofs.freeze.keeps_freeze.Tie as tie
 
-is-counted-requires : tie.Need-is-counted-requires
-is-counted-requires c κs = search needs
-
-returns : tie.Need-returns
-returns c = sym (not-counted-frozen _ _ _ _ (sym (c .before .is-counted .ensures) ∙ not-true _ (c .if1 .taken)))
-
 mint-of-requires : tie.Need-mint-of-requires
 mint-of-requires c κs = search needs
 
-holds-requires : tie.Need-holds-requires
-holds-requires c κs = search needs
+same-key-requires : tie.Need-same-key-requires
+same-key-requires c κs = search needs
+
+returns : tie.Need-returns
+returns c =
+    let mint = c .before .before .before .before .before .before .before .before .args .mint .now in
+    sym
+    (not-listed-frozen _ (sameKey mint) _ _
+    (ap (λ (m : List ℕ). sameKey mint m) (sym (c .before .before .mint-of .ensures)) ∙ sym (c .before .same-key .ensures) ∙ not-true _ (c .if1 .taken)))
+
+is-counted-requires : tie.Need-is-counted-requires
+is-counted-requires c κs = search needs
 
 returns-2 : tie.Need-returns-2
-returns-2 c =
-    let first = c .before .before .before in
-    let mints = first .before .before .before .before .before .args .mints in
-    sym
-    (not-listed-frozen _ _ _ _ (sym (first .before .is-counted .ensures) ∙ not-false _ (first .if1 .left))
-    (ap (λ (m : List ℕ). isAmong m (keysIn mints)) (sym (c .before .before .mint-of .ensures)) ∙ sym (c .before .holds .ensures) ∙ not-true _ (c .if2 .taken)))
+returns-2 c = sym (not-counted-frozen _ _ _ _ (sym (c .before .is-counted .ensures) ∙ not-true _ (c .if2 .taken)))
 
 record-payload-requires : tie.Need-record-payload-requires
 record-payload-requires c κs = search needs
@@ -42,22 +41,22 @@ still-there-requires c κs = search needs
 returns-3 : tie.Need-returns-3
 returns-3 c =
     let second = c .before .before .before in
-    let first = second .before .before .before in
-    let mints = first .before .before .before .before .before .args .mints in
+    let first = second .before .before in
+    let mint = first .before .before .before .before .before .before .before .before .args .mint .now in
     c .still-there .ensures
     ∙ rw (c .before .before .record-payload .ensures, c .before .record-key .ensures)
     (sym
-    (listed-frozen _ _ _ _ (sym (first .before .is-counted .ensures) ∙ not-false _ (first .if1 .left))
-    (ap (λ (m : List ℕ). isAmong m (keysIn mints)) (sym (second .before .before .mint-of .ensures)) ∙ sym (second .before .holds .ensures) ∙ not-false _ (second .if2 .left))))
+    (listed-frozen _ (sameKey mint) _ _ (sym (second .before .is-counted .ensures) ∙ not-false _ (second .if2 .left))
+    (ap (λ (m : List ℕ). sameKey mint m) (sym (first .before .before .mint-of .ensures)) ∙ sym (first .before .same-key .ensures) ∙ not-false _ (first .if1 .left))))
 
 pub keeps-freeze-spec : {M : Type 1} → statement M
 keeps-freeze-spec =
     tie.close
     (tie.spec
-    is-counted-requires
-    returns
     mint-of-requires
-    holds-requires
+    same-key-requires
+    returns
+    is-counted-requires
     returns-2
     record-payload-requires
     record-key-requires

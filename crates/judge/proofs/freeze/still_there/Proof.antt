@@ -5,33 +5,30 @@ use mathlib.Core.Path.{_≡_, refl, sym, ap, _∙_}
 use native.Mathlib.Numerals.{add-one}
 use native.Mathlib.Omega.{arith}
 use mathlib.Core.List.{List}
-use lib.ListN.{length, drop, length-map}
+use lib.ListN.{length, drop}
 use Rattle.key.specs.Key.{sameKey}
-use Rattle.account.specs.Views.{recordsAt}
+use Rattle.account.specs.Views.{recordsAt, viewsOf, tableIn}
 use Rattle.judge.specs.Freeze.{isFoundStill, firstWithKey}
 use Rattle.judge.proofs.Freezing.{still-found, still-passed, still-end}
 use Rattle.judge.proofs.freeze.still_there.Statement.{statement}
 use Rattle.judge.proofs.freeze.still_there.Tie as tie
 
 abbrev Inv-loop : tie.InvT-loop
-Inv-loop payload key table cut n i₀ i =
-    (i ≤ n) × (n ≡ min (cut .count) 64)
-    × (isFoundStill payload (firstWithKey key (drop i (recordsAt table cut))) ≡ isFoundStill payload (firstWithKey key (recordsAt table cut)))
+Inv-loop payload key table list count n i₀ i =
+    (i ≤ n) × (n ≡ min count (length (viewsOf list)))
+    × (isFoundStill payload (firstWithKey key (drop i (recordsAt table (tableIn list count)))) ≡ isFoundStill payload (firstWithKey key (recordsAt table (tableIn list count))))
 
 abbrev μ-loop : tie.MeasureT-loop
-μ-loop payload key table cut n i₀ i = n - i
+μ-loop payload key table list count n i₀ i = n - i
 
-records-counted-requires : tie.Need-records-counted-requires Inv-loop μ-loop
-records-counted-requires c κs = tt
+counted-in-requires : tie.Need-counted-in-requires Inv-loop μ-loop
+counted-in-requires c κs = tt
 
 loop-holds : tie.Need-loop-holds Inv-loop μ-loop
-loop-holds c = (omega arith, c .records-counted .ensures, refl)
+loop-holds c = (omega arith, c .counted-in .ensures, refl)
 
-mul-view : tie.Need-mul-view Inv-loop μ-loop
-mul-view c = omega arith
-
-element-copy-out-view : tie.Need-element-copy-out-view Inv-loop μ-loop
-element-copy-out-view c = omega arith
+view-in-requires : tie.Need-view-in-requires Inv-loop μ-loop
+view-in-requires c κs = tt
 
 record-key-requires : tie.Need-record-key-requires Inv-loop μ-loop
 record-key-requires c κs = tt
@@ -45,13 +42,13 @@ is-still-requires c κs = tt
 returns : tie.Need-returns Inv-loop μ-loop
 returns c =
     let at-loop = c .before .before .before .before .before .before in
-    let start = at-loop .before .before .before .before .before in
-    let cut = start .args .t4 in
-    let long : length (cut .views) ≡ 64 = simp length-map at (start .good .1 .1 .1 .0 .1 .1 .1 .0 .1 .0 .1) in
+    let start = at-loop .before .before .before .before .before .before in
+    let cut = tableIn (start .args .list .now) (start .args .count) in
     let test = c .before in
+    let seen = test .before .before .before .view-in in
     sym
     (sym (at-loop .loop .inv .2)
-    ∙ still-found _ _ _ cut (at-loop .loop .i) _ (omega arith) (omega arith)
+    ∙ still-found _ _ _ cut (at-loop .loop .i) _ (seen .ensures) (omega arith) (omega arith)
     (ap (λ (k : List ℕ). sameKey k (start .args .key .now)) (sym (test .before .before .record-key .ensures)) ∙ sym (test .before .same-key .ensures) ∙ test .if1 .taken)
     ∙ sym (c .is-still .ensures))
 
@@ -65,14 +62,14 @@ loop-again : tie.Need-loop-again Inv-loop μ-loop
 loop-again c =
     let at-loop = c .before .before .before .before .before in
     let i = at-loop .loop .i in
-    let start = at-loop .before .before .before .before .before in
-    let cut = start .args .t4 in
-    let long : length (cut .views) ≡ 64 = simp length-map at (start .good .1 .1 .1 .0 .1 .1 .1 .0 .1 .0 .1) in (
+    let start = at-loop .before .before .before .before .before .before in
+    let cut = tableIn (start .args .list .now) (start .args .count) in
+    let seen = c .before .before .before .view-in in (
       omega arith,
       at-loop .loop .inv .1,
       rw (add-one i)
           (sym
-          (still-passed _ _ _ cut i _ (omega arith) (omega arith)
+          (still-passed _ _ _ cut i _ (seen .ensures) (omega arith) (omega arith)
           (ap (λ (k : List ℕ). sameKey k (start .args .key .now)) (sym (c .before .before .record-key .ensures)) ∙ sym (c .before .same-key .ensures) ∙ c .if1 .left))
           ∙ at-loop .loop .inv .2),
     )
@@ -80,9 +77,8 @@ loop-again c =
 returns-2 : tie.Need-returns-2 Inv-loop μ-loop
 returns-2 c =
     let at-loop = c .before in
-    let start = at-loop .before .before .before .before .before in
-    let cut = start .args .t4 in
-    let long : length (cut .views) ≡ 64 = simp length-map at (start .good .1 .1 .1 .0 .1 .1 .1 .0 .1 .0 .1) in
+    let start = at-loop .before .before .before .before .before .before in
+    let cut = tableIn (start .args .list .now) (start .args .count) in
     sym (sym (at-loop .loop .inv .2) ∙ still-end _ _ _ cut (at-loop .loop .i) (omega arith))
 
 pub still-there-spec : {M : Type 1} → statement M
@@ -91,10 +87,9 @@ still-there-spec =
     (tie.spec
     Inv-loop
     μ-loop
-    records-counted-requires
+    counted-in-requires
     loop-holds
-    mul-view
-    element-copy-out-view
+    view-in-requires
     record-key-requires
     same-key-requires
     is-still-requires

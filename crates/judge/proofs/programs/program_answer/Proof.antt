@@ -3,60 +3,58 @@
 use mathlib.Core.Path.{_≡_, refl, sym, ap, _∙_}
 use Prim.Native.Nat.{_<_, _≤_}
 use native.Mathlib.Omega.{arith}
-use lib.ListN.{length, length-map}
-use Rattle.account.specs.Views.{recordsAt}
+use lib.ListN.{length}
+use Rattle.account.specs.Views.{recordsAt, tableIn, zeroView}
 use Rattle.account.proofs.Views.{length-records}
+use Rattle.account.proofs.Lookups.{key-there}
 use Rattle.judge.proofs.Lists.{program-out-of-range, program-in-range}
 use borrow.Author.Needs.{needs}
 use Rattle.judge.proofs.programs.program_answer.Statement.{statement}
 use Rattle.judge.proofs.programs.program_answer.Tie as tie
+
+counted-in-requires : tie.Need-counted-in-requires
+counted-in-requires c κs = search needs
 
 of-requires : tie.Need-of-requires
 of-requires c κs = search needs
 
 returns : tie.Need-returns
 returns c =
-    let start = c .before .before .before .before in
+    let asked = c .before .before in
+    let start = asked .before .before .before .before in
     let table = start .args .table .now in
-    let cut = start .args .cut in
-    let past : length (recordsAt table cut) ≤ start .args .program = rw (length-records table cut) (omega arith) in
+    let t = tableIn (start .args .list .now) (start .args .count) in
+    let past : length (recordsAt table t) ≤ start .args .program = rw (length-records table t, ← (asked .counted-in .ensures)) (omega arith) in
     c .of .ensures ∙ sym (program-out-of-range _ _ _ _ past)
 
-of-requires-2 : tie.Need-of-requires-2
-of-requires-2 c κs = search needs
+view-in-requires : tie.Need-view-in-requires
+view-in-requires c κs = search needs
 
-returns-2 : tie.Need-returns-2
-returns-2 c =
-    let start = c .before .before .before .before .before in
-    let table = start .args .table .now in
-    let cut = start .args .cut in
-    let long : length (cut .views) ≡ 64 = simp length-map at (start .good .1 .1 .1 .0 .1 .1 .1 .0 .1 .0 .1) in
-    let past : length (recordsAt table cut) ≤ start .args .program = rw (length-records table cut) (omega arith) in
-    c .of2 .ensures ∙ sym (program-out-of-range _ _ _ _ past)
-
-key-at-requires : tie.Need-key-at-requires
-key-at-requires c κs = search needs
+record-key-requires : tie.Need-record-key-requires
+record-key-requires c κs = search needs
 
 lists-answer-requires : tie.Need-lists-answer-requires
 lists-answer-requires c κs = search needs
 
-returns-3 : tie.Need-returns-3
-returns-3 c =
-    let start = c .before .before .before .before .before .before in
+returns-2 : tie.Need-returns-2
+returns-2 c =
+    let asked = c .before .before .before .before in
+    let start = asked .before .before .before .before in
     let table = start .args .table .now in
-    let cut = start .args .cut in
-    let long : length (cut .views) ≡ 64 = simp length-map at (start .good .1 .1 .1 .0 .1 .1 .1 .0 .1 .0 .1) in
-    let inside : start .args .program < length (recordsAt table cut) = rw (length-records table cut) (omega arith) in
-    c .lists-answer .ensures ∙ rw (c .before .key-at .ensures) (sym (program-in-range _ _ _ _ inside))
+    let t = tableIn (start .args .list .now) (start .args .count) in
+    let inside : start .args .program < length (recordsAt table t) = rw (length-records table t, ← (asked .counted-in .ensures)) (omega arith) in
+    c .lists-answer .ensures
+    ∙ rw (c .before .record-key .ensures, c .before .before .view-in .ensures, ← (key-there table t (start .args .program) zeroView (omega arith) (omega arith)))
+    (sym (program-in-range _ _ _ _ inside))
 
 pub program-answer-spec : {M : Type 1} → statement M
 program-answer-spec =
     tie.close
     (tie.spec
+    counted-in-requires
     of-requires
     returns
-    of-requires-2
-    returns-2
-    key-at-requires
+    view-in-requires
+    record-key-requires
     lists-answer-requires
-    returns-3)
+    returns-2)
