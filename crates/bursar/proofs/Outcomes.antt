@@ -7,7 +7,7 @@ use mathlib.Core.List.{List, [], map}
 use mathlib.Core.Path.{_≡_, ap₂}
 use Prim.Native.Nat.{_+_, min, ℕ}
 use lib.Dec.{leb}
-use lib.ListN.{length}
+use lib.ListN.{getD, length}
 use Rattle.answer.specs.Numbers.{accepts, answer}
 use Rattle.answer.specs.Outcome.{one-outcome}
 use Rattle.answer.specs.Refusable.{refused}
@@ -33,7 +33,8 @@ use Rattle.compact.specs.declared.Written.{Written}
 use Rattle.account.specs.Indexes.{keyAmong, keyAt, resolving}
 use Rattle.account.specs.Table.{cutTable}
 use Rattle.account.specs.Tokens.{balance as balanceOf, isCounted, isTokenAccount, mintOf}
-use Rattle.account.specs.Views.{recordAt, recordsAt, tableOf}
+use Rattle.account.specs.Views.{placesOf, recordAt, recordsAt, tableIn, tableOf, viewsOf, zeroView}
+use Rattle.account.specs.declared.Places.{Places}
 use Rattle.account.specs.declared.RecordView.{RecordView}
 use Rattle.account.specs.declared.Table.{Table}
 use Rattle.limit.specs.Limit.{changeOf, classAnswer, ruleAnswer}
@@ -282,6 +283,16 @@ pub account-fields-record-payload : (table : List ℕ) (view : RecordView)
     → OneOutcome (λ (r : List ℕ). r ≡ recordAt table view .payload)
 account-fields-record-payload _ _ _ _ p q = one-outcome p q
 
+-- account::fields::view_in
+pub account-fields-view-in : (list : List ℕ) (i : ℕ)
+    → OneOutcome (λ (r : RecordView). r ≡ getD (viewsOf list) i zeroView)
+account-fields-view-in _ _ _ _ p q = one-outcome p q
+
+-- account::fields::counted_in
+pub account-fields-counted-in : (list : List ℕ) (count : ℕ)
+    → OneOutcome (λ (r : ℕ). r ≡ min count (length (viewsOf list)))
+account-fields-counted-in _ _ _ _ p q = one-outcome p q
+
 -- account::indexes::key_at
 pub account-indexes-key-at : (table : List ℕ) (cut : Table) (index : ℕ)
     → OneOutcome (λ (r : List ℕ). r ≡ keyAmong (recordsAt table cut) index)
@@ -307,6 +318,11 @@ pub account-parse-records-counted : (count : ℕ)
     → OneOutcome (λ (r : ℕ). r ≡ min count 64)
 account-parse-records-counted _ _ _ p q = one-outcome p q
 
+-- account::parse::cut_places
+pub account-parse-cut-places : (table : List ℕ)
+    → OneOutcome (λ (r : Places). r ≡ placesOf (tableOf (cutTable table)))
+account-parse-cut-places _ _ _ p q = one-outcome p q
+
 -- account::tokens::is_token_account
 pub account-tokens-is-token-account : (table : List ℕ) (view : RecordView)
     → OneOutcome (λ (r : Bool). r ≡ isTokenAccount (recordAt table view))
@@ -326,6 +342,11 @@ account-tokens-is-counted _ _ _ _ _ p q = one-outcome p q
 pub account-tokens-balance : (table : List ℕ) (cut : Table) (vault mint : List ℕ)
     → OneOutcome (λ (r : ℕ). r ≡ balanceOf vault mint (recordsAt table cut))
 account-tokens-balance _ _ _ _ _ _ p q = one-outcome p q
+
+-- account::tokens::balance_in
+pub account-tokens-balance-in : (table list : List ℕ) (count : ℕ) (vault mint : List ℕ)
+    → OneOutcome (λ (r : ℕ). r ≡ balanceOf vault mint (recordsAt table (tableIn list count)))
+account-tokens-balance-in _ _ _ _ _ _ _ p q = one-outcome p q
 
 -- ---- limit
 
@@ -352,9 +373,9 @@ limit-settle _ _ _ _ _ _ p q = one-outcome p q
 -- ---- judge
 
 -- judge::amounts::amounts
-pub judge-amounts-amounts : (region : List ℕ) (parsed : action-Parsed) (before : List ℕ) («before_cut» : Table) (after : List ℕ) («after_cut» : Table) (vault : List ℕ) (sol gross : ℕ)
-    → OneOutcome (λ (r : Amounts). r ≡ judge-amountsOf (map (amountFrom vault (recordsAt before «before_cut») (recordsAt after «after_cut») sol gross) (actionsAt region parsed)))
-judge-amounts-amounts _ _ _ _ _ _ _ _ _ _ _ p q = one-outcome p q
+pub judge-amounts-amounts : (region : List ℕ) (parsed : action-Parsed) (before «before_list» : List ℕ) («before_count» : ℕ) (after «after_list» : List ℕ) («after_count» : ℕ) (vault : List ℕ) (sol gross : ℕ)
+    → OneOutcome (λ (r : Amounts). r ≡ judge-amountsOf (map (amountFrom vault (recordsAt before (tableIn «before_list» «before_count»)) (recordsAt after (tableIn «after_list» «after_count»)) sol gross) (actionsAt region parsed)))
+judge-amounts-amounts _ _ _ _ _ _ _ _ _ _ _ _ _ p q = one-outcome p q
 
 -- judge::call::judge
 pub judge-call-judge : (region before after instructions vault : List ℕ) (slot «lamports_before» «lamports_after» gross : ℕ)
@@ -362,14 +383,14 @@ pub judge-call-judge : (region before after instructions vault : List ℕ) (slot
 judge-call-judge _ _ _ _ _ _ _ _ _ _ _ p q = one-outcome (both p) (both q)
 
 -- judge::freeze::verify_token_authorities_unchanged
-pub judge-freeze-verify-token-authorities-unchanged : (before : List ℕ) («before_cut» : Table) (after : List ℕ) («after_cut» : Table) (vault : List ℕ) (mints : Keys)
-    → OneOutcome (λ (r : Bool). r ≡ allFrozen vault (λ (mint : List ℕ). isAmong mint (keysIn mints)) (recordsAt after «after_cut») (recordsAt before «before_cut»))
-judge-freeze-verify-token-authorities-unchanged _ _ _ _ _ _ _ _ p q = one-outcome p q
+pub judge-freeze-verify-token-authorities-unchanged : (before «before_list» : List ℕ) («before_count» : ℕ) (after «after_list» : List ℕ) («after_count» : ℕ) (vault : List ℕ) (mints : Keys)
+    → OneOutcome (λ (r : Bool). r ≡ allFrozen vault (λ (mint : List ℕ). isAmong mint (keysIn mints)) (recordsAt after (tableIn «after_list» «after_count»)) (recordsAt before (tableIn «before_list» «before_count»)))
+judge-freeze-verify-token-authorities-unchanged _ _ _ _ _ _ _ _ _ _ p q = one-outcome p q
 
 -- judge::programs::evaluate_pre_actions
-pub judge-programs-evaluate-pre-actions : (region : List ℕ) (parsed : action-Parsed) (table : List ℕ) (cut : Table) (entries : Entries) (slot : ℕ)
-    → OneOutcome (λ (r : Answer). r ≡ programsAnswer slot (actionsAt region parsed) (recordsAt table cut) (programsIn entries))
-judge-programs-evaluate-pre-actions _ _ _ _ _ _ _ _ p q = one-outcome p q
+pub judge-programs-evaluate-pre-actions : (region : List ℕ) (parsed : action-Parsed) (table list : List ℕ) (count : ℕ) (entries : Entries) (slot : ℕ)
+    → OneOutcome (λ (r : Answer). r ≡ programsAnswer slot (actionsAt region parsed) (recordsAt table (tableIn list count)) (programsIn entries))
+judge-programs-evaluate-pre-actions _ _ _ _ _ _ _ _ _ p q = one-outcome p q
 
 -- ---- thimbleford
 
