@@ -1,14 +1,14 @@
 -- The values that the code hands on between steps.
 -- Assumes nothing.
 use Prim.Native.Nat.{ℕ, _-_}
-use mathlib.Core.Bool.{Bool, true, false, not, cond}
+use mathlib.Core.Bool.{Bool, true, false, not, cond, _&&_}
 use mathlib.Core.List.{List, [], _∷_, _++_, map}
 use mathlib.Core.Option.{Option, none, some}
 use lib.Dec.{eqb}
 use lib.ListN.{length, take, replicate}
 use Rattle.answer.specs.declared.Answer.{Answer}
 use Rattle.answer.specs.Numbers.{answer, accepted, firstRefusal, refuseIf, sessionTokenAuthorityChanged}
-use Rattle.key.specs.Key.{isAmong, keysIn}
+use Rattle.key.specs.Key.{sameKey, isAmong, keysIn}
 use Rattle.action.specs.Region.{Action, mostActions, solMaxPerTx}
 use Rattle.action.specs.Fields.{isToken, keyOf}
 use Rattle.action.specs.Mints.{listedMints}
@@ -26,6 +26,10 @@ use Rattle.judge.specs.Programs.{programsAnswer}
 -- the program indexes of the counted entries
 unfoldable pub programsIn : Entries → List ℕ
 programsIn entries = map (λ (e : Entry). e .program) (entriesIn entries)
+
+-- two token actions have one mint
+unfoldable pub sharesMint : Action → Action → Bool
+sharesMint a b = isToken (b .kind) && isToken (a .kind) && sameKey (keyOf a) (keyOf b)
 
 -- the amount that an action's rule looks at, from the records and the SOL amounts
 unfoldable pub amountFrom : List ℕ → List Record → List Record → ℕ → ℕ → Action → ℕ

@@ -10,12 +10,16 @@ use action::form::counted;
 use limit::Amounts;
 use number::floored_difference;
 ghost use mathlib.Core.Path.{_≡_};
+ghost use mathlib.Core.Bool.{_||_};
 ghost use mathlib.Core.List.{map};
+ghost use Prim.Native.Nat.{_<_, _≤_};
+ghost use lib.Dec.{leb};
+ghost use lib.ListN.{length, getD};
 ghost use Rattle.account.specs.Tokens.{balance as balanceOf};
 ghost use Rattle.account.specs.Views.{recordsAt, tableIn};
 ghost use Rattle.action.specs.Views.{actionAt, actionsAt};
 ghost use Rattle.judge.specs.Judge.{decrease};
-ghost use Rattle.judge.specs.Views.{amountFrom, amountsOf};
+ghost use Rattle.judge.specs.Views.{sharesMint, amountFrom, amountsOf};
 
 // How much the vault's balance of a mint went down.
 fn token_decrease(
@@ -68,6 +72,68 @@ fn amount_for(
     sol
 }
 
+fn shares_mint(region: &[u8], other: ActionView, view: ActionView) -> bool
+    ensures { λ r. ⌜ r ≡ sharesMint (actionAt (now (region .entry)) other) (actionAt (now (region .entry)) view) ⌝ }
+{
+    if !is_token(view.kind) {
+        return false;
+    }
+    if !is_token(other.kind) {
+        return false;
+    }
+    key::same_key(key_of(region, other), key_of(region, view))
+}
+
+// Whether the search for an earlier action ends: at the action's own place, or at one that shares its
+// mint.
+fn ends(region: &[u8], other: ActionView, view: ActionView, found: usize, i: usize) -> bool
+    ensures { λ r. ⌜ r ≡ (leb i found || sharesMint (actionAt (now (region .entry)) other) (actionAt (now (region .entry)) view)) ⌝ }
+{
+    if i <= found {
+        return true;
+    }
+    shares_mint(region, other, view)
+}
+
+// An action's amount: the one that is known where an earlier action shares its mint, so that a mint is
+// summed once.
+fn amount_known(
+    known: &[u64],
+    found: usize,
+    i: usize,
+    region: &[u8],
+    view: ActionView,
+    before: &[u8],
+    before_list: &[usize],
+    before_count: usize,
+    after: &[u8],
+    after_list: &[usize],
+    after_count: usize,
+    vault: &[u8],
+    sol: u64,
+    gross: u64,
+) -> u64
+    requires { ⌜ (i ≤ length (now known)) × (found < i → getD (now known) found 0 ≡ amountFrom (now vault) (recordsAt (now before) (tableIn (now «before_list») «before_count»)) (recordsAt (now after) (tableIn (now «after_list») «after_count»)) sol gross (actionAt (now region) view)) ⌝ }
+    ensures { λ r. ⌜ r ≡ amountFrom (now (vault .entry)) (recordsAt (now (before .entry)) (tableIn (now («before_list» .entry)) «before_count»)) (recordsAt (now (after .entry)) (tableIn (now («after_list» .entry)) «after_count»)) sol gross (actionAt (now (region .entry)) view) ⌝ }
+{
+    if found < i {
+        return known[found];
+    }
+    amount_for(
+        region,
+        view,
+        before,
+        before_list,
+        before_count,
+        after,
+        after_list,
+        after_count,
+        vault,
+        sol,
+        gross,
+    )
+}
+
 // An amount for each action of the region: `sol` is the decrease in lamports, `gross` the gross outflow.
 pub fn amounts(
     region: &[u8],
@@ -89,7 +155,16 @@ pub fn amounts(
     let mut i = 0;
     while i < n {
         let view = parsed.views[i];
-        let amount = amount_for(
+        let mut found = 0;
+        let mut other = parsed.views[0];
+        while !ends(region, other, view, found, i) {
+            found += 1;
+            other = parsed.views[found];
+        }
+        let amount = amount_known(
+            &list,
+            found,
+            i,
             region,
             view,
             before,
