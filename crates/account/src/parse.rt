@@ -9,7 +9,6 @@ use answer::ACCEPTED;
 use answer::Answer;
 use answer::BAD_TABLE;
 ghost use mathlib.Core.Path.{_≡_};
-ghost use Prim.Native.Nat.{min};
 ghost use Rattle.answer.specs.Numbers.{answer as answerOf, badTable};
 ghost use Rattle.answer.specs.Refusable.{refused as Refused};
 ghost use Rattle.account.specs.Table.{cutTable};
@@ -107,17 +106,6 @@ pub fn cut_table(table: &[u8]) -> Table
         answer: Answer::of(ACCEPTED),
         views,
         count,
-    }
-}
-
-// How many records there are to look at, whatever the count says.
-pub fn records_counted(count: usize) -> usize
-    ensures { λ r. ⌜ r ≡ min count 64 ⌝ }
-{
-    if count < MAX_RECORDS {
-        count
-    } else {
-        MAX_RECORDS
     }
 }
 

@@ -1,8 +1,6 @@
 // Token accounts: which records are counted, and a mint's balance over them.
 use crate::RecordView;
-use crate::Table;
 use crate::fields;
-use crate::parse;
 use crate::programs::SPL_TOKEN;
 use crate::programs::TOKEN_2022;
 ghost use mathlib.Core.Path.{_≡_};
@@ -68,27 +66,14 @@ fn added(total: u64, table: &[u8], view: RecordView, vault: &[u8], mint: &[u8]) 
     number::capped_sum(total, amount)
 }
 
-// A mint's balance over the counted records, from the last to the first as the sum is defined.
-pub fn balance(table: &[u8], cut: Table, vault: &[u8], mint: &[u8]) -> u64
-    ensures { λ r. ⌜ r ≡ balanceOf (now (vault .entry)) (now (mint .entry)) (recordsAt (now (table .entry)) cut) ⌝ }
-{
-    let mut total = 0;
-    let mut i = parse::records_counted(cut.count);
-    while 0 < i {
-        i -= 1;
-        let view = cut.views[i];
-        total = added(total, table, view, vault, mint);
-    }
-    total
-}
-
-// The same over a row of numbers, which is lent where a table would be copied.
-pub fn balance_in(table: &[u8], list: &[usize], count: usize, vault: &[u8], mint: &[u8]) -> u64
+// A mint's balance over the records of a row, from the last to the first as the sum is defined. The
+// row is lent: a table by value would be copied for every mint.
+pub fn balance(table: &[u8], list: &[usize], count: usize, vault: &[u8], mint: &[u8]) -> u64
     ensures { λ r. ⌜ r ≡ balanceOf (now (vault .entry)) (now (mint .entry)) (recordsAt (now (table .entry)) (tableIn (now (list .entry)) count)) ⌝ }
 {
     let mut total = 0;
     let mut i = fields::counted_in(list, count);
-    while i > 0 {
+    while 0 < i {
         i -= 1;
         let view = fields::view_in(list, i);
         total = added(total, table, view, vault, mint);

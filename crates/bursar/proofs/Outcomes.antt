@@ -313,11 +313,6 @@ pub account-parse-cut-table : (table : List ℕ)
     → OneOutcome (λ (r : Table). r ≡ tableOf (cutTable table))
 account-parse-cut-table _ _ _ p q = one-outcome p q
 
--- account::parse::records_counted
-pub account-parse-records-counted : (count : ℕ)
-    → OneOutcome (λ (r : ℕ). r ≡ min count 64)
-account-parse-records-counted _ _ _ p q = one-outcome p q
-
 -- account::parse::cut_places
 pub account-parse-cut-places : (table : List ℕ)
     → OneOutcome (λ (r : Places). r ≡ placesOf (tableOf (cutTable table)))
@@ -339,14 +334,9 @@ pub account-tokens-is-counted : (table : List ℕ) (view : RecordView) (vault : 
 account-tokens-is-counted _ _ _ _ _ p q = one-outcome p q
 
 -- account::tokens::balance
-pub account-tokens-balance : (table : List ℕ) (cut : Table) (vault mint : List ℕ)
-    → OneOutcome (λ (r : ℕ). r ≡ balanceOf vault mint (recordsAt table cut))
-account-tokens-balance _ _ _ _ _ _ p q = one-outcome p q
-
--- account::tokens::balance_in
-pub account-tokens-balance-in : (table list : List ℕ) (count : ℕ) (vault mint : List ℕ)
+pub account-tokens-balance : (table list : List ℕ) (count : ℕ) (vault mint : List ℕ)
     → OneOutcome (λ (r : ℕ). r ≡ balanceOf vault mint (recordsAt table (tableIn list count)))
-account-tokens-balance-in _ _ _ _ _ _ _ p q = one-outcome p q
+account-tokens-balance _ _ _ _ _ _ _ p q = one-outcome p q
 
 -- ---- limit
 

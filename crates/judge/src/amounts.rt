@@ -1,5 +1,5 @@
 // The amount that each action's rule looks at.
-use account::tokens::balance_in;
+use account::tokens::balance;
 use action::ActionView;
 use action::MAX_ACTIONS;
 use action::Parsed;
@@ -34,8 +34,8 @@ fn token_decrease(
 ) -> u64
     ensures { λ r. ⌜ r ≡ decrease (balanceOf (now (vault .entry)) (now (mint .entry)) (recordsAt (now (before .entry)) (tableIn (now («before_list» .entry)) «before_count»))) (balanceOf (now (vault .entry)) (now (mint .entry)) (recordsAt (now (after .entry)) (tableIn (now («after_list» .entry)) «after_count»))) ⌝ }
 {
-    let had = balance_in(before, before_list, before_count, vault, mint);
-    let has = balance_in(after, after_list, after_count, vault, mint);
+    let had = balance(before, before_list, before_count, vault, mint);
+    let has = balance(after, after_list, after_count, vault, mint);
     floored_difference(had, has)
 }
 

@@ -6,18 +6,18 @@ use borrow.Author.Needs.{needs}
 use Rattle.judge.proofs.amounts.token_decrease.Statement.{statement}
 use Rattle.judge.proofs.amounts.token_decrease.Tie as tie
 
-balance-in-requires : tie.Need-balance-in-requires
-balance-in-requires c κs = search needs
+balance-requires : tie.Need-balance-requires
+balance-requires c κs = search needs
 
-balance-in-requires-2 : tie.Need-balance-in-requires-2
-balance-in-requires-2 c κs = search needs
+balance-requires-2 : tie.Need-balance-requires-2
+balance-requires-2 c κs = search needs
 
 floored-difference-requires : tie.Need-floored-difference-requires
 floored-difference-requires c κs = search needs
 
 returns : tie.Need-returns
-returns c = c .floored-difference .ensures ∙ decreased _ _ _ _ (c .before .before .balance-in .ensures) (c .before .balance-in2 .ensures)
+returns c = c .floored-difference .ensures ∙ decreased _ _ _ _ (c .before .before .balance .ensures) (c .before .balance2 .ensures)
 
 pub token-decrease-spec : {M : Type 1} → statement M
 token-decrease-spec =
-    tie.close (tie.spec balance-in-requires balance-in-requires-2 floored-difference-requires returns)
+    tie.close (tie.spec balance-requires balance-requires-2 floored-difference-requires returns)
