@@ -17,7 +17,6 @@ use Rattle.action.specs.declared.Rule.the-variants.{Length}
 use Rattle.action.specs.Region.{Action, Typed, types, sizeAmong, dataLength, glueOne, glue}
 use Rattle.action.specs.Fields.{isToken, isRecurring, keyOf, mintLength, amountsOf, withAmounts, window, changedAmounts, changed}
 use Rattle.action.specs.Creation.{keeps, allKeep}
-use Rattle.action.proofs.Cutting.{IsFirst}
 use Rattle.action.proofs.Cuts.{Cuts, none, more}
 use Rattle.action.proofs.Gluing.{Fits, AllFit, no-more, one-more, data-at-most}
 

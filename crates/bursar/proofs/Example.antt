@@ -2,9 +2,9 @@
 -- Assumes nothing.
 use mathlib.Core.Path.{_≡_, refl}
 use mathlib.Core.Option.{some}
-use mathlib.Core.List.{List, [], _∷_, _++_}
+use mathlib.Core.List.{[], _++_}
 use lib.ListN.{replicate}
-use Rattle.answer.specs.NamedValue.{NamedValue, AsNamed}
+use Rattle.answer.specs.NamedValue.{AsNamed}
 use Rattle.answer.specs.Numbers.{firstRefusal}
 use Rattle.key.specs.Key.{sameKey, sameBytes}
 use Rattle.number.specs.Number.{number, bytesOf, numberAt, cappedSum, flooredDifference, withNumberAt, highest}

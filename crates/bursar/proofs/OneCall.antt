@@ -7,10 +7,9 @@ use mathlib.Core.Option.{Option, none, some}
 use Prim.Native.Nat.{ℕ, _+_, _<_, _≤_}
 use native.Mathlib.Omega.{arith}
 use borrow.Author.Tests.{eqb-true, ltb-true}
-use lib.Dec.{eqb, ltb}
-use lib.ListN.{length, take}
+use lib.Dec.{eqb}
 use Rattle.answer.specs.Numbers.{accepts}
-use Rattle.answer.specs.Refusable.{Refusable, given, refused}
+use Rattle.answer.specs.Refusable.{given}
 use Rattle.number.specs.Number.{Bytes, highest}
 use Rattle.key.specs.Key.{sameKey}
 use Rattle.key.proofs.Laws.{same-key-eq}
@@ -18,7 +17,7 @@ use Rattle.action.specs.declared.Change.{Change}
 use Rattle.action.specs.declared.Rule.{Rule}
 use Rattle.action.specs.declared.Rule.the-variants.{Windowed}
 use Rattle.action.specs.Region.{Action, solMaxPerTx}
-use Rattle.action.specs.Fields.{isToken, isRecurring, keyOf, amountsOf, remaining, limit, spent, window, lastReset, changed}
+use Rattle.action.specs.Fields.{isToken, isRecurring, keyOf, amountsOf, remaining, limit, spent, window, changed}
 use Rattle.action.specs.Creation.{keeps, allKeep, storedActions}
 use Rattle.action.proofs.Changing.{Regular, AllRegular, changed-kind, changed-key, mint-there, window-kept}
 use Rattle.action.proofs.Keeping.{window-kept as windowed-is}
@@ -29,7 +28,7 @@ use Rattle.limit.proofs.Taking.{counts, EachKept, Goes, on, anew, left-and-take
 use Rattle.judge.specs.Judge.{Call, recordsBefore, recordsAfter, decrease, amountFor, charged, actionsOf, judged, regionAfter}
 use Rattle.judge.proofs.Theorems.{a-refusal-leaves-the-region, writes, an-accepted-call-keeps-the-stored-form, an-accepted-call-keeps-bytes, accepted-charges-keep-their-rules}
 use Rattle.bursar.specs.Run.{Fund, sol, tokens, takenBy}
-use Rattle.bursar.specs.Limits.{actionsIn, speaksOf, firstThat, amountsIn}
+use Rattle.bursar.specs.Limits.{actionsIn, speaksOf, firstThat}
 
 -- ---- a region that stands: bytes in stored form
 

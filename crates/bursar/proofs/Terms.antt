@@ -3,30 +3,29 @@
 use mathlib.Core.Path.{_≡_, refl, sym, ap, ap₂, subst, _∙_}
 use mathlib.Core.Bool.{Bool, true, false, not, cond, _&&_, _||_, and-eq-true-iff}
 use mathlib.Core.List.{List, [], _∷_, map}
-use Prim.Native.Nat.{ℕ, _+_, _<_, _≤_}
+use Prim.Native.Nat.{ℕ, _+_, _≤_}
 use native.Mathlib.Omega.{arith}
-use borrow.Author.Tests.{eqb-true, ltb-false}
+use borrow.Author.Tests.{eqb-true}
 use lib.Dec.{eqb, ltb}
 use lib.ListN.{length, take}
 use Rattle.answer.specs.Numbers.{accepts}
-use Rattle.answer.specs.Refusable.{Refusable, given}
 use Rattle.key.specs.Key.{sameKey}
 use Rattle.key.proofs.Laws.{same-key-eq}
 use Rattle.action.specs.declared.Change.{Change}
 use Rattle.action.specs.declared.Change.the-variants.{Nothing}
 use Rattle.action.specs.declared.Rule.the-variants.{Windowed}
 use Rattle.action.specs.Region.{Action, expired}
-use Rattle.action.specs.Fields.{isToken, isRecurring, keyOf, mintLength, amountsOf, limit, window, changed, withAmounts, changedAmounts}
-use Rattle.action.specs.Creation.{kindsOf, howOften, solRepeats, mintAgain, mintRepeats}
-use Rattle.action.proofs.Changing.{Regular, mint-there, changed-kind, changed-expires, changed-length, changed-mint, changed-amounts, window-kept}
+use Rattle.action.specs.Fields.{isToken, isRecurring, keyOf, mintLength, amountsOf, limit, window, changedAmounts}
+use Rattle.action.specs.Creation.{kindsOf, howOften, mintAgain, mintRepeats}
+use Rattle.action.proofs.Changing.{mint-there, changed-kind, changed-expires, changed-length, changed-mint, changed-amounts, window-kept}
 use Rattle.action.proofs.Theorems.{Formed}
-use Rattle.limit.specs.Limit.{Charge, isLimit, liveChange, changeOf, settled}
+use Rattle.limit.specs.Limit.{isLimit, liveChange, changeOf}
 use Rattle.limit.proofs.Rules.{change-none}
 use Rattle.limit.proofs.Taking.{counts, limit-kept}
 use Rattle.judge.specs.Judge.{Call, amountFor, judged, regionAfter}
 use Rattle.judge.proofs.Theorems.{a-refusal-leaves-the-region, writes}
 use Rattle.bursar.specs.Run.{Fund, sol, tokens}
-use Rattle.bursar.specs.Limits.{actionsIn, speaksOf, howMany, fixedAmounts, Terms, termsOf, termsIn}
+use Rattle.bursar.specs.Limits.{speaksOf, howMany, fixedAmounts, Terms, termsOf, termsIn}
 use Rattle.bursar.proofs.OneCall.{Stands, Each, Found, Pair, afterCall, after-is-settled, counts-recurring, all-found, actions-are, actions-after}
 
 -- ---- terms

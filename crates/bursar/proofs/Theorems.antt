@@ -2,20 +2,20 @@
 -- Assumes nothing.
 use mathlib.Core.Path.{_≡_, refl, sym, ap, ap₂, subst, _∙_}
 use mathlib.Core.Bool.{Bool, true, false, not, cond, _&&_, _||_, and-eq-true-iff}
-use mathlib.Core.List.{List, [], _∷_, map}
+use mathlib.Core.List.{List, [], _∷_}
 use mathlib.Core.Option.{Option, none, some}
-use Prim.Native.Nat.{ℕ, _+_, _*_, _<_, _≤_}
+use Prim.Native.Nat.{ℕ, _+_, _<_, _≤_}
 use native.Mathlib.Omega.{arith}
 use borrow.Author.Tests.{eqb-true, ne-eqb, ltb-false}
 use lib.Dec.{eqb, ltb}
 use Rattle.answer.specs.Numbers.{accepts, badRegion}
-use Rattle.answer.specs.Refusable.{Refusable, given}
+use Rattle.answer.specs.Refusable.{given}
 use Rattle.number.specs.Number.{highest}
 use Rattle.action.specs.Region.{Action, solLimit, tokenLimit, solRecurringLimit, tokenRecurringLimit}
 use Rattle.action.specs.Fields.{isToken, isRecurring, amountsOf, remaining, limit, spent, window, lastReset}
 use Rattle.action.specs.declared.Rule.the-variants.{Fresh}
 use Rattle.action.specs.Creation.{keeps, howOften, solRepeats, storedActions}
-use Rattle.action.proofs.Theorems.{Formed, creation-accepted-is-stored, stored-is-formed}
+use Rattle.action.proofs.Theorems.{creation-accepted-is-stored, stored-is-formed}
 use Rattle.limit.specs.Limit.{isLimit}
 use Rattle.limit.proofs.Taking.{Goes, on, anew}
 use Rattle.judge.specs.Judge.{Call, actionsOf, judged, regionAfter}

@@ -9,7 +9,7 @@ use lib.Dec.{eqb}
 use lib.ListN.{length, take}
 use Rattle.key.specs.Key.{sameKey}
 use Rattle.action.specs.Region.{Action, solLimit, tokenLimit, solRecurringLimit, tokenRecurringLimit}
-use Rattle.action.specs.Fields.{isRecurring, keyOf, mintLength, amountsOf, remaining, limit, window, lastReset}
+use Rattle.action.specs.Fields.{isRecurring, keyOf, mintLength, amountsOf, limit, window, lastReset}
 use Rattle.action.specs.Creation.{storedActions}
 use Rattle.limit.specs.Limit.{isLimit}
 use Rattle.judge.specs.Judge.{Call, actionsOf}

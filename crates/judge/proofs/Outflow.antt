@@ -3,7 +3,7 @@
 use mathlib.Core.Path.{_≡_, refl, sym, ap, _∙_}
 use mathlib.Core.Bool.{Bool, true, false, _&&_, _||_, and-eq-true-iff}
 use mathlib.Core.List.{List, [], _∷_, _++_, map}
-use Prim.Native.Nat.{ℕ, zero, suc, _-_, _<_, _≤_, min}
+use Prim.Native.Nat.{ℕ, zero, suc, _-_, _<_, _≤_}
 use native.Mathlib.Omega.{arith}
 use borrow.Author.Tests.{eq-eqb, ne-eqb, lt-leb, leb-false}
 use lib.Dec.{leb}
@@ -19,7 +19,6 @@ use Rattle.action.specs.Fields.{isToken, keyOf}
 use Rattle.action.specs.Views.{actionAt, actionsAt, viewsIn, zeroView}
 use Rattle.account.specs.Table.{Record}
 use Rattle.account.specs.Tokens.{balance}
-use Rattle.limit.specs.declared.Amounts.{Amounts}
 use Rattle.judge.specs.Judge.{decrease}
 use Rattle.judge.specs.Views.{sharesMint, amountFrom, amountsOf}
 

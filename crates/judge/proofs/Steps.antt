@@ -4,11 +4,11 @@ use mathlib.Core.Path.{_≡_, refl, sym, ap, ap₂, _∙_}
 use mathlib.Core.Bool.{Bool, true, false, not, cond}
 use mathlib.Core.List.{List, [], _∷_, _++_, map}
 use mathlib.Core.Option.{Option, none, some}
-use Prim.Native.Nat.{ℕ, _+_, _-_, _<_, _≤_, min}
+use Prim.Native.Nat.{ℕ, _+_, _-_, _<_, _≤_}
 use native.Mathlib.Omega.{arith}
 use borrow.Author.Tests.{eq-eqb, ne-eqb}
-use lib.Dec.{eqb, lit<}
-use lib.ListN.{length, take, replicate, length-append, length-map}
+use lib.Dec.{lit<}
+use lib.ListN.{length, length-append, length-map}
 use Rattle.answer.specs.declared.Answer.{Answer}
 use Rattle.answer.specs.Numbers.{answer, accepted, accepts, firstRefusal, refuseIf, badTable, badRegion, sessionTokenAuthorityChanged}
 use Rattle.answer.specs.Refusable.{Refusable, given, refused}
@@ -17,23 +17,20 @@ use Rattle.number.specs.Number.{Bytes}
 use Rattle.key.specs.declared.Keys.{Keys}
 use Rattle.key.specs.Key.{isAmong, keysIn}
 use Rattle.action.specs.declared.Parsed.{Parsed}
-use Rattle.action.specs.declared.Rule.the-variants.{Length}
 use Rattle.action.specs.Region.{Action, cut, glue, mostActions}
 use Rattle.action.specs.Mints.{isListed, listedMints}
-use Rattle.action.specs.Creation.{allKeep, inStoredForm, storedActions}
+use Rattle.action.specs.Creation.{inStoredForm, storedActions}
 use Rattle.action.specs.Views.{actionsAt, viewsIn, parsedOf}
 use Rattle.action.proofs.Cuts.{cut-cuts, cut-at-most, actions-of-parsed}
 use Rattle.action.proofs.Listing.{listed-mints-hold}
 use Rattle.action.proofs.Theorems.{stored-is-formed, stored-is-glued}
-use Rattle.action.proofs.Views.{length-actions}
-use Rattle.compact.specs.declared.Entries.{Entries}
 use Rattle.compact.specs.declared.Entry.{Entry}
 use Rattle.compact.specs.declared.Parsed.{Parsed as ReadList}
-use Rattle.compact.specs.Compact.{Instruction, Read, decode, reading, placed, placedOne, entriesIn, entriesOf, refused as noList}
+use Rattle.compact.specs.Compact.{Instruction, Read, decode, reading, placed, placedOne, refused as noList}
 use Rattle.compact.proofs.Places.{entries-held}
 use Rattle.compact.proofs.Reading.{reading-of, outcome}
 use Rattle.account.specs.declared.Places.{Places}
-use Rattle.account.specs.Table.{Record, cutTable, recordsOf}
+use Rattle.account.specs.Table.{Record, cutTable}
 use Rattle.account.specs.Views.{recordsAt, tableOf, placesOf, tableIn}
 use Rattle.account.proofs.Views.{records-of-table}
 use Rattle.account.proofs.InRow.{records-of-row}

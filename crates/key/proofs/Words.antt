@@ -4,16 +4,16 @@
 use mathlib.Core.Path.{_≡_, refl, sym, ap, _∙_}
 use mathlib.Core.Bool.{Bool, true, false, _&&_, and-assoc, and-true}
 use mathlib.Core.List.{List, [], _∷_, _++_}
-use Prim.Native.Nat.{ℕ, suc, _+_, _≤_}
+use Prim.Native.Nat.{ℕ, _+_, _≤_}
 use native.Mathlib.Omega.{arith}
 use borrow.Author.Tests.{eq-eqb, ne-eqb}
 use lib.Dec.{eqb}
 use lib.ListN.{length, take, drop, length-drop, take-append-drop}
 use lib.Seq.{drop-drop, length-take-le}
-use Rattle.number.specs.Number.{Bytes, number, numberAt, bytesOf}
+use Rattle.number.specs.Number.{Bytes, number, numberAt}
 use Rattle.number.proofs.Laws.{bytesOf-number, bytes-drop, bytes-take, number-there}
-use Rattle.key.specs.Key.{sameBytes, sameKey}
-use Rattle.key.proofs.Laws.{same-bytes-eq, same-bytes-refl, same-bytes-end, keys-compared}
+use Rattle.key.specs.Key.{sameBytes}
+use Rattle.key.proofs.Laws.{same-bytes-eq, same-bytes-refl, same-bytes-end}
 
 pub same-number : (a b : List ℕ) → Bytes a → Bytes b → length a ≡ length b → sameBytes a b ≡ eqb (number a) (number b)
 same-number a b ha hb long = go (sameBytes a b) refl

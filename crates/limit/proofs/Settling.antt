@@ -1,14 +1,12 @@
 -- Settling a glued row of actions where they lie is gluing the settled actions.
 -- Assumes nothing.
 use mathlib.Core.Path.{_≡_, refl, sym, ap, ap₂, _∙_}
-use mathlib.Core.Bool.{Bool, true, false}
 use mathlib.Core.List.{List, [], _∷_, _++_, map, append-assoc, append-nil}
-use Prim.Native.Nat.{ℕ, zero, suc, _+_, _-_, _<_, _≤_, min}
+use Prim.Native.Nat.{ℕ, _+_, _-_, _≤_}
 use native.Mathlib.Omega.{arith}
-use lib.ListN.{length, take, drop, replicate, length-append}
+use lib.ListN.{length, replicate, length-append}
 use lib.Seq.{take-at}
-use Rattle.answer.specs.Refusable.{Refusable, given, refused}
-use Rattle.action.specs.declared.ActionView.{ActionView}
+use Rattle.answer.specs.Refusable.{given}
 use Rattle.action.specs.Region.{Action, glueOne, glue}
 use Rattle.action.specs.Views.{actionAt, viewAt, placed, viewsIn, parsedOf, writtenAt, zeroView}
 use Rattle.action.proofs.Changing.{changed-kind, changed-expires, changed-length}

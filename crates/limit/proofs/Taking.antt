@@ -2,9 +2,9 @@
 -- spent, or begins anew at a later multiple of its length. One argument each for SOL and tokens.
 -- Assumes nothing.
 use mathlib.Core.Path.{_≡_, refl, sym, ap, subst, _∙_}
-use mathlib.Core.Bool.{Bool, true, false, not, cond, _&&_, _||_}
+use mathlib.Core.Bool.{Bool, true, false, cond, _||_}
 use mathlib.Core.List.{List, [], _∷_, map}
-use Prim.Native.Nat.{ℕ, _+_, _-_, _*_, _/_, _%_, _^_, _<_, _≤_, min}
+use Prim.Native.Nat.{ℕ, _+_, _-_, _*_, _/_, _^_, _<_, _≤_}
 use native.Mathlib.Nat.{mod-lt, div-add-mod'}
 use native.Mathlib.Omega.{arith}
 use borrow.Author.Tests.{ltb-true, ltb-false, eqb-true, ne-eqb}
@@ -12,16 +12,16 @@ use lib.Dec.{eqb, ltb, lit≤, lit<}
 use lib.ListN.{length}
 use Rattle.answer.specs.Numbers.{answer, accepted, accepts}
 use Rattle.answer.proofs.Laws.{EachAccepts, each-accepts}
-use Rattle.number.specs.Number.{Bytes, numberAt, withNumberAt, cappedSum, flooredDifference, highest}
-use Rattle.number.proofs.Laws.{read-back, read-before, read-after, read-below, length-with-number}
+use Rattle.number.specs.Number.{withNumberAt, cappedSum, flooredDifference, highest}
+use Rattle.number.proofs.Laws.{read-back, read-before, read-below, length-with-number}
 use Rattle.action.specs.declared.Change.{Change}
-use Rattle.action.specs.declared.Change.the-variants.{Nothing, Remaining, Spent}
-use Rattle.action.specs.Region.{Action, expired}
-use Rattle.action.specs.Fields.{isToken, isRecurring, amountsOf, remaining, limit, spent, window, lastReset, changedAmounts, changed}
+use Rattle.action.specs.declared.Change.the-variants.{Nothing}
+use Rattle.action.specs.Region.{expired}
+use Rattle.action.specs.Fields.{isToken, isRecurring, amountsOf, remaining, limit, spent, window, lastReset, changedAmounts}
 use Rattle.action.proofs.Changing.{Regular, mint-there, amounts-there, amounts-are-bytes, changed-amounts}
 use Rattle.limit.specs.Limit.{Charge, refusalOf, isSol, ofClass, classAnswer, ruleAnswer, windowOver, base, above, breaks, spentChange, isLimit, liveChange, changeOf, settled}
 use Rattle.limit.proofs.Charging.{oneAnswer}
-use Rattle.limit.proofs.Rules.{above-recurring, above-other, change-recurring, change-limit, breaks-expired, breaks-above, unchanged-nothing, unchanged-expired, changed-live, spent-anew, spent-more, rule-broken}
+use Rattle.limit.proofs.Rules.{above-recurring, above-other, change-recurring, change-limit, breaks-expired, breaks-above, unchanged-nothing, changed-live, spent-anew, spent-more, rule-broken}
 
 -- a limit has no window
 limit-not-recurring : (kind : ℕ) → isLimit kind ≡ true → isRecurring kind ≡ false
