@@ -1,7 +1,7 @@
 -- The sentences over runs.
 -- Assumes nothing.
 use mathlib.Core.Path.{_≡_, refl, sym, ap, ap₂, subst, _∙_}
-use mathlib.Core.Bool.{Bool, true, false, not, cond, _&&_, _||_, and-eq-true-iff}
+use mathlib.Core.Bool.{Bool, true, false, not, cond, _&&_, _||_, and-true, and-eq-true-iff}
 use mathlib.Core.List.{List, [], _∷_}
 use mathlib.Core.Option.{Option, none, some}
 use Prim.Native.Nat.{ℕ, _+_, _<_, _≤_}
@@ -47,10 +47,6 @@ sol-is-limit = refl
 token-is-limit : isLimit tokenLimit ≡ true
 unfolding isLimit
 token-is-limit = refl
-
-and-true : (b : Bool) → (b && true) ≡ b
-and-true true = refl
-and-true false = refl
 
 left-through : (fund : Fund) (calls : List Call) (region : List ℕ) → Stands region → (a : Action) → firstThat (isLimitOf fund) (actionsIn region) ≡ some a
     → (b : Action) × (firstThat (isLimitOf fund) (actionsIn (afterRun region calls)) ≡ some b)
