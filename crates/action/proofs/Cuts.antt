@@ -3,7 +3,7 @@
 use mathlib.Core.Path.{_≡_, refl, sym, ap, ap₂, subst, _∙_}
 use mathlib.Core.Bool.{Bool, true, false}
 use mathlib.Core.List.{List, [], _∷_, _++_, map, append-assoc}
-use Prim.Native.Nat.{ℕ, zero, suc, _+_, _-_, _*_, _<_, _≤_}
+use Prim.Native.Nat.{ℕ, zero, suc, _+_, _-_, _*_, _%_, _<_, _≤_}
 use native.Mathlib.Nat.{add-zero, not-suc-le-zero}
 use native.Mathlib.Omega.{arith}
 use lib.Dec.{eqb}
@@ -15,11 +15,13 @@ use Rattle.answer.specs.Refusable.{Refusable, given, refused, change}
 use Rattle.number.specs.Number.{number, bytesOf, Bytes}
 use Rattle.number.proofs.Laws.{bytesOf-number, bytes-take, bytes-drop}
 use Rattle.action.specs.declared.ActionView.{ActionView}
+use Rattle.action.specs.declared.Parsed.{Parsed}
 use Rattle.action.specs.Region.{Action, First, first, cut, mostActions, glueOne, glue, dataLength, statedLength}
-use Rattle.action.specs.Views.{viewAt, placed, zeroView, parsedOf, dataAt, actionAt, viewsIn, actionsAt}
+use Rattle.action.specs.Views.{viewAt, placed, zeroView, viewsOf, rowOf, parsedOf, dataAt, actionAt, actionsIn}
 use Rattle.action.proofs.Cutting.{IsFirst, first-is, first-refuses, cut-end, cut-full, cut-refused, cut-first}
+use Rattle.action.proofs.InRow.{row-front}
 use Rattle.action.proofs.Parsing.{length-placed}
-use Rattle.action.proofs.Views.{data-there}
+use Rattle.action.proofs.Views.{data-there, known-code}
 
 -- `Cuts n s l`: the bytes s cut into the actions l, at most n of them
 pub data Cuts : ℕ → List ℕ → List Action → Type 0 where
@@ -93,8 +95,28 @@ views-name s (more {f = f} facts cuts) place h e =
     let after : f .rest ≡ drop (place + 11 + length (f .act .payload)) s = here .rest-is ∙ drop-drop (11 + length (f .act .payload)) place s ∙ ap (λ (k : ℕ). drop k s) next in
     ap₂ (λ (a : Action) (k : List Action). a ∷ k) (act-there s place f h here) (views-name s cuts (place + 11 + length (f .act .payload)) (omega arith) after)
 
-pub actions-of-parsed : (s : List ℕ) (l : List Action) → cut mostActions s ≡ given l → actionsAt s (parsedOf (given l)) ≡ l
-unfolding actionsAt viewsIn parsedOf
-actions-of-parsed s l e =
-    let views : take (length l) (placed 0 l ++ replicate (mostActions - length l) zeroView) ≡ placed 0 l = take-at (placed 0 l) _ (length l) (length-placed 0 l) in
-    rw views (views-name s (cut-cuts mostActions s l e) 0 (omega arith) refl)
+-- an action that was cut has a known code, which a row keeps as it is
+views-held : {n : ℕ} {s : List ℕ} {l : List Action} → Cuts n s l → (place : ℕ) → viewsOf (rowOf (placed place l)) ≡ placed place l
+unfolding placed viewsOf rowOf viewAt
+views-held none place = refl
+views-held (more {f = f} facts cuts) place =
+    let known = known-code (f .act .kind) (facts .known) in
+    let kept : f .act .kind % 256 ≡ f .act .kind = omega arith in
+    let rest = views-held cuts (place + 11 + length (f .act .payload)) in
+    rw (kept, rest)
+
+-- the row of the actions that a region was cut into
+abbrev pub rowIn : Parsed → List ℕ
+rowIn p = take (4 * p .count) (p .list)
+
+-- what it holds are their views
+pub views-of-parsed : (s : List ℕ) (l : List Action) → cut mostActions s ≡ given l → viewsOf (rowIn (parsedOf (given l))) ≡ placed 0 l
+unfolding parsedOf
+views-of-parsed s l e =
+    let front : take (length l) (placed 0 l ++ replicate (mostActions - length l) zeroView) ≡ placed 0 l = take-at (placed 0 l) _ (length l) (length-placed 0 l) in
+    rw (row-front (length l) (placed 0 l ++ replicate (mostActions - length l) zeroView), front) (views-held (cut-cuts mostActions s l e) 0)
+
+-- and they name the actions that were cut
+pub actions-of-parsed : (s : List ℕ) (l : List Action) → cut mostActions s ≡ given l → actionsIn s (rowIn (parsedOf (given l))) ≡ l
+unfolding actionsIn
+actions-of-parsed s l e = rw (views-of-parsed s l e) (views-name s (cut-cuts mostActions s l e) 0 (omega arith) refl)

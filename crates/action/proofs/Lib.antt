@@ -3,6 +3,7 @@ pub mod Cuts
 pub mod Cutting
 pub mod Forms
 pub mod Gluing
+pub mod InRow
 pub mod Keeping
 pub mod Listing
 pub mod NamedValues

@@ -3,7 +3,7 @@
 use mathlib.Core.Path.{_≡_, refl, sym, ap, _∙_}
 use mathlib.Core.Bool.{Bool, true, false, cond, _&&_, _||_, or-false, or-assoc, and-eq-true-iff}
 use mathlib.Core.List.{List, [], _∷_, _++_}
-use Prim.Native.Nat.{ℕ, suc, _+_, _-_, _<_, _≤_, min}
+use Prim.Native.Nat.{ℕ, suc, _+_, _-_, _<_, _≤_}
 use native.Mathlib.Omega.{arith}
 use borrow.Author.Tests.{eqb-true}
 use lib.Dec.{eqb, lit≤}
@@ -13,12 +13,11 @@ use Rattle.key.specs.declared.Keys.{Keys}
 use Rattle.key.specs.Key.{sameKey, isAmong, keysIn, keysOf, zeroKey, withKey}
 use Rattle.key.proofs.Laws.{among-with-one, with-key-in, with-key-next}
 use Rattle.action.specs.declared.ActionView.{ActionView}
-use Rattle.action.specs.declared.Parsed.{Parsed}
 use Rattle.action.specs.declared.Rule.the-variants.{Length}
 use Rattle.action.specs.Region.{Action, dataLength, sizeAmong}
 use Rattle.action.specs.Fields.{isToken, keyOf}
 use Rattle.action.specs.Mints.{isListed, withMint, withMints, listedMints}
-use Rattle.action.specs.Views.{actionAt, actionsAt}
+use Rattle.action.specs.Views.{viewsOf, zeroView, actionAt, actionsIn}
 use Rattle.action.specs.Creation.{keeps, allKeep}
 use Rattle.action.proofs.Views.{actions-step, length-actions}
 
@@ -32,16 +31,16 @@ mint-added mints a e = rw e
 
 -- ---- collecting, a view at a time
 
-pub mints-step : (s : List ℕ) (p : Parsed) (i : ℕ) (d : ActionView) (mints : Keys) → i < p .count → i < length (p .views)
-    → withMints mints (drop i (actionsAt s p)) ≡ withMints (withMint mints (actionAt s (getD (p .views) i d))) (drop (suc i) (actionsAt s p))
+pub mints-step : (s row : List ℕ) (i : ℕ) (v : ActionView) (mints : Keys) → v ≡ getD (viewsOf row) i zeroView → i < length (viewsOf row)
+    → withMints mints (drop i (actionsIn s row)) ≡ withMints (withMint mints (actionAt s v)) (drop (suc i) (actionsIn s row))
 unfolding withMints
-mints-step s p i d mints hc hv = rw (actions-step s p i d hc hv)
+mints-step s row i v mints here h = rw (here, actions-step s row i zeroView h)
 
-pub mints-end : (s : List ℕ) (p : Parsed) (i : ℕ) (mints : Keys) → min (p .count) (length (p .views)) ≤ i → withMints mints (drop i (actionsAt s p)) ≡ mints
+pub mints-end : (s row : List ℕ) (i : ℕ) (mints : Keys) → length (viewsOf row) ≤ i → withMints mints (drop i (actionsIn s row)) ≡ mints
 unfolding withMints
-mints-end s p i mints past =
-    let short : length (actionsAt s p) ≤ i = rw (length-actions s p) past in
-    rw (drop-of-length-le (actionsAt s p) short)
+mints-end s row i mints past =
+    let short : length (actionsIn s row) ≤ i = rw (length-actions s row) past in
+    rw (drop-of-length-le (actionsIn s row) short)
 
 pub mints-none : (l : List Action) → listedMints l ≡ withMints (keysOf []) l
 unfolding listedMints

@@ -2,7 +2,7 @@
 -- Assumes nothing.
 use mathlib.Core.Path.{_≡_, refl, sym, ap, subst, _∙_}
 use mathlib.Core.List.{List, [], _∷_, _++_, append-assoc, append-nil}
-use Prim.Native.Nat.{ℕ, zero, suc, _+_, _-_, _<_, _≤_}
+use Prim.Native.Nat.{ℕ, zero, suc, _+_, _-_, _*_, _<_, _≤_}
 use native.Mathlib.Nat.{add-zero}
 use native.Mathlib.Omega.{arith}
 use lib.ListN.{length, getD, take, drop, set, replicate, length-append, length-drop}
@@ -13,7 +13,8 @@ use Rattle.answer.specs.Refusable.{Refusable, given, refused, change}
 use Rattle.action.specs.declared.ActionView.{ActionView}
 use Rattle.action.specs.declared.HeaderRead.the-variants.{View, Refused}
 use Rattle.action.specs.Region.{Action, First, first, cut, mostActions}
-use Rattle.action.specs.Views.{viewAt, headerAt, placed, zeroView, parsedOf}
+use Rattle.action.specs.Views.{viewAt, headerAt, placed, zeroView, rowOf, parsedOf}
+use Rattle.action.proofs.InRow.{row-set}
 use Rattle.action.proofs.Cutting.{IsFirst, first-is, cut-end, cut-full, cut-refused, cut-first, view-first, refused-first}
 
 -- the place after some actions that are laid from a place
@@ -68,7 +69,7 @@ cut-none s = record {
 
 module _ {s : List ℕ} {views : List ActionView} {count at : ℕ} (so-far : CutSoFar s views count at) where
   -- all is cut
-  pub cut-all : length s ≤ at → parsedOf (cut mostActions s) ≡ record { answer = answer accepted; views = views; count = count }
+  pub cut-all : length s ≤ at → parsedOf (cut mostActions s) ≡ record { answer = answer accepted; list = rowOf views; count = count }
   unfolding parsedOf
   cut-all h =
       let done = so-far .done in
@@ -140,3 +141,26 @@ module _ {s : List ℕ} {views : List ActionView} {count at : ℕ} (so-far : Cut
             let (f, e, p) = view-first s at v h in
             let facts = first-is (drop at s) f e in
             subst (λ (w : ActionView). CutSoFar s (set views count w) (count + 1) (w .at + w .len)) p (cut-act f e facts)
+
+-- how far a region is cut into a row
+pub record RowSoFar (s : List ℕ) (list : List ℕ) (count at : ℕ) : Type 0 where
+  pub views : List ActionView
+  pub so-far : CutSoFar s views count at
+  pub row : list ≡ rowOf views
+
+pub row-none : (s : List ℕ) → RowSoFar s (replicate 64 0) 0 0
+unfolding rowOf
+row-none s = record { views = replicate 16 zeroView; so-far = cut-none s; row = refl }
+
+module _ {s list : List ℕ} {count at : ℕ} (far : RowSoFar s list count at) where
+  pub row-all : length s ≤ at → parsedOf (cut mostActions s) ≡ record { answer = answer accepted; list = list; count = count }
+  row-all end = rw (far .row) (cut-all (far .so-far) end)
+
+  pub row-one : at < length s → count < 16 → (v : ActionView) → headerAt s at ≡ View v
+      → RowSoFar s (set (set (set (set list (4 * count) (v .kind)) (4 * count + 1) (v .expires)) (4 * count + 2) (v .at)) (4 * count + 3) (v .len)) (count + 1) (v .at + v .len)
+  row-one more room v h =
+      record {
+        views = set (far .views) count v;
+        so-far = cut-one (far .so-far) more room v h;
+        row = rw (row-set (far .views) count v, far .row);
+      }

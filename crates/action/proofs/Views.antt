@@ -3,21 +3,22 @@
 use mathlib.Core.Path.{_≡_, refl, sym, ap, ap₂, _∙_}
 use mathlib.Core.Bool.{Bool, true, false, cond}
 use mathlib.Core.List.{List, [], _∷_, _++_, map, append-assoc, append-nil}
-use Prim.Native.Nat.{ℕ, zero, suc, _+_, _-_, _<_, _≤_, min}
+use mathlib.Core.Logic.{⊎-elim}
+use Prim.Native.Nat.{ℕ, zero, suc, _+_, _-_, _<_, _≤_}
+use native.Mathlib.Nat.{eq-zero-or-pos}
 use native.Mathlib.Omega.{arith}
 use borrow.Author.Tests.{le-leb, lt-leb, eq-eqb, ne-eqb}
 use lib.Dec.{eqb, lit<}
 use lib.ListN.{length, getD, take, drop, length-drop, take-append-drop, drop-of-length-le, length-take, length-map, List·getD-map}
-use lib.Seq.{drop-cons, drop-drop, drop-at, getD-take, take-add, take-take, take-all, length-take-le}
+use lib.Seq.{drop-cons, drop-drop, drop-at, take-add, take-take, take-all, length-take-le}
 use Rattle.action.specs.declared.ActionView.{ActionView}
 use Rattle.number.specs.Number.{withNumberAt}
 use Rattle.number.proofs.Laws.{not-written}
 use Rattle.action.specs.declared.Change.{Change}
 use Rattle.action.specs.declared.Change.the-variants.{Nothing, Remaining, Spent}
-use Rattle.action.specs.declared.Parsed.{Parsed}
 use Rattle.action.specs.Region.{Action, dataLength, sizeAmong}
 use Rattle.action.specs.Fields.{mintLength, amountsOf, withAmounts, changedAmounts, changed}
-use Rattle.action.specs.Views.{dataAt, actionAt, viewsIn, actionsAt, writtenAt}
+use Rattle.action.specs.Views.{viewsOf, dataAt, actionAt, actionsIn, writtenAt}
 
 pub data-there : (s : List ℕ) (v : ActionView) → v .at + v .len ≤ length s → dataAt s v ≡ take (v .len) (drop (v .at) s)
 unfolding dataAt
@@ -42,18 +43,21 @@ unknown-code code h =
       ne-eqb code 11 (λ e. omega arith),
     )
 
--- the actions of the counted views, one after the other
-pub actions-step : (s : List ℕ) (p : Parsed) (i : ℕ) (d : ActionView) → i < p .count → i < length (p .views)
-    → drop i (actionsAt s p) ≡ actionAt s (getD (p .views) i d) ∷ drop (suc i) (actionsAt s p)
-unfolding actionsAt viewsIn
-actions-step s p i d hc hv =
-    let counted = take (p .count) (p .views) in
-    let inside : i < length (map (actionAt s) counted) = simp (length-map, length-take) (omega arith) in
-    rw (drop-cons (map (actionAt s) counted) i (actionAt s d), List·getD-map (actionAt s) counted i d, getD-take (p .count) (p .views) i d)
+pub known-code : (code : ℕ) → 0 < dataLength code → code < 12
+known-code code h =
+    ⊎-elim (λ e. omega arith) (λ p. absurd (omega (arith, unknown-code code (omega arith)))) (eq-zero-or-pos (code - 11))
 
-pub length-actions : (s : List ℕ) (p : Parsed) → length (actionsAt s p) ≡ min (p .count) (length (p .views))
-unfolding actionsAt viewsIn
-length-actions s p = simp (length-map, length-take)
+-- the actions of a row, one after the other
+pub actions-step : (s row : List ℕ) (i : ℕ) (d : ActionView) → i < length (viewsOf row)
+    → drop i (actionsIn s row) ≡ actionAt s (getD (viewsOf row) i d) ∷ drop (suc i) (actionsIn s row)
+unfolding actionsIn
+actions-step s row i d h =
+    let inside : i < length (map (actionAt s) (viewsOf row)) = simp length-map h in
+    rw (drop-cons (map (actionAt s) (viewsOf row)) i (actionAt s d), List·getD-map (actionAt s) (viewsOf row) i d)
+
+pub length-actions : (s row : List ℕ) → length (actionsIn s row) ≡ length (viewsOf row)
+unfolding actionsIn
+length-actions s row = simp length-map
 
 -- the amounts of the action that a view names, from its data
 module _ (s : List ℕ) (v : ActionView) (payload : List ℕ) (e : payload ≡ dataAt s v) where

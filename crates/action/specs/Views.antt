@@ -1,6 +1,6 @@
 -- Where the actions of a region lie: the values that the code answers with, each from the actions that were cut.
 -- Assumes nothing.
-use Prim.Native.Nat.{ℕ, _+_, _-_}
+use Prim.Native.Nat.{ℕ, _+_, _-_, _%_}
 use mathlib.Core.Bool.{Bool, cond}
 use mathlib.Core.List.{List, [], _∷_, _++_, map}
 use lib.Dec.{leb}
@@ -38,11 +38,24 @@ abbrev pub headerAnswer : HeaderRead → Answer
 headerAnswer (View v) = answer accepted
 headerAnswer (Refused r) = r
 
--- a region's views: those of the actions that were cut, and none where it was refused
+-- the views that a row of numbers holds, four numbers for each: a type's code, an expiry, where the data starts and how long it is
+unfoldable pub viewsOf : List ℕ → List ActionView
+viewsOf [] = []
+viewsOf (k ∷ []) = []
+viewsOf (k ∷ e ∷ []) = []
+viewsOf (k ∷ e ∷ a ∷ []) = []
+viewsOf (k ∷ e ∷ a ∷ n ∷ l) = record { kind = k % 256; expires = e; at = a; len = n } ∷ viewsOf l
+
+-- and the row that holds some views
+unfoldable pub rowOf : List ActionView → List ℕ
+rowOf [] = []
+rowOf (v ∷ l) = v .kind ∷ v .expires ∷ v .at ∷ v .len ∷ rowOf l
+
+-- a region's actions: the views of those that were cut as a row, and none where it was refused
 unfoldable pub parsedOf : Refusable (List Action) → Parsed
-unfolding placed
-parsedOf (given l) = record { answer = answer accepted; views = placed 0 l ++ replicate (mostActions - length l) zeroView; count = length l }
-parsedOf (refused r) = record { answer = r; views = replicate 16 zeroView; count = 0 }
+unfolding placed rowOf
+parsedOf (given l) = record { answer = answer accepted; list = rowOf (placed 0 l ++ replicate (mostActions - length l) zeroView); count = length l }
+parsedOf (refused r) = record { answer = r; list = rowOf (replicate mostActions zeroView); count = 0 }
 
 -- the data that a view names, or nothing where it passes the end
 unfoldable pub dataAt : List ℕ → ActionView → List ℕ
@@ -53,19 +66,15 @@ unfoldable pub actionAt : List ℕ → ActionView → Action
 unfolding dataAt
 actionAt s v = record { kind = v .kind; expires = v .expires; payload = dataAt s v }
 
--- the views that are counted
-unfoldable pub viewsIn : Parsed → List ActionView
-viewsIn p = take (p .count) (p .views)
+-- the types' codes of the actions of a row
+unfoldable pub kindsIn : List ℕ → List ℕ
+unfolding viewsOf
+kindsIn row = map (λ (v : ActionView). v .kind) (viewsOf row)
 
--- the types' codes of the counted views
-unfoldable pub kindsIn : Parsed → List ℕ
-unfolding viewsIn
-kindsIn p = map (λ (v : ActionView). v .kind) (viewsIn p)
-
--- the actions that the counted views name
-unfoldable pub actionsAt : List ℕ → Parsed → List Action
-unfolding actionAt viewsIn
-actionsAt s p = map (actionAt s) (viewsIn p)
+-- the actions that the views of a row name
+unfoldable pub actionsIn : List ℕ → List ℕ → List Action
+unfolding actionAt viewsOf
+actionsIn s row = map (actionAt s) (viewsOf row)
 
 -- a region with an action's data written where a view says, or unchanged where that passes the end
 unfoldable pub writtenAt : List ℕ → ActionView → Action → List ℕ

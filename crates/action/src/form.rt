@@ -1,9 +1,7 @@
 // Creation's rules and the stored form, over the views of a region's actions.
 use crate::ActionView;
-use crate::MAX_ACTIONS;
 use crate::PROGRAM_BLACKLIST;
 use crate::PROGRAM_WHITELIST;
-use crate::Parsed;
 use crate::Rule;
 use crate::SOL_LIMIT;
 use crate::SOL_MAX_PER_TX;
@@ -18,6 +16,9 @@ use crate::fields::spent;
 use crate::fields::window;
 use crate::parse::expected_data_size;
 use crate::parse::parse_actions;
+use crate::row::action_in;
+use crate::row::actions_in;
+use crate::row::how_many;
 use answer::ACCEPTED;
 use answer::ACTION_BUFFER_INVALID;
 use answer::ACTION_WHITELIST_BLACKLIST_CONFLICT;
@@ -25,15 +26,13 @@ use answer::Answer;
 use answer::BAD_REGION;
 ghost use mathlib.Core.Path.{_≡_};
 ghost use mathlib.Core.Bool.{_&&_};
-ghost use mathlib.Core.List.{map};
-ghost use Prim.Native.Nat.{_<_, min};
+ghost use Prim.Native.Nat.{_<_};
 ghost use lib.Dec.{eqb};
 ghost use lib.ListN.{drop};
 ghost use Rattle.key.specs.Key.{sameKey};
-ghost use Rattle.action.specs.declared.ActionView.{ActionView};
 ghost use Rattle.action.specs.Fields.{isToken, keyOf};
-ghost use Rattle.action.specs.Creation.{keeps as keepsRule, allKeep, howOften, bothLists, solRepeats, mintAgain, mintRepeats, formOf, creation, storedActions};
-ghost use Rattle.action.specs.Views.{actionAt, actionsAt, viewsIn, kindsIn, parsedOf};
+ghost use Rattle.action.specs.Creation.{keeps as keepsRule, allKeep, howOften, bothLists, solRepeats, mintAgain, mintRepeats, formOf, creation, storedAnswer};
+ghost use Rattle.action.specs.Views.{actionAt, actionsIn, kindsIn};
 
 fn keeps_length(region: &[u8], view: ActionView) -> bool
     ensures { λ r. ⌜ r ≡ keepsRule Rule.Length (actionAt (now (region .entry)) view) ⌝ }
@@ -77,24 +76,13 @@ fn keeps(region: &[u8], view: ActionView, rule: Rule) -> bool
     }
 }
 
-// How many views there are to look at, whatever the count says.
-pub fn counted(parsed: Parsed) -> usize
-    ensures { λ r. ⌜ r ≡ min (parsed .count) 16 ⌝ }
+fn all_keep(region: &[u8], actions: &[u64], rule: Rule) -> bool
+    ensures { λ r. ⌜ r ≡ allKeep rule (actionsIn (now (region .entry)) (now (actions .entry))) ⌝ }
 {
-    if parsed.count < MAX_ACTIONS {
-        parsed.count
-    } else {
-        MAX_ACTIONS
-    }
-}
-
-fn all_keep(region: &[u8], parsed: Parsed, rule: Rule) -> bool
-    ensures { λ r. ⌜ r ≡ allKeep rule (actionsAt (now (region .entry)) parsed) ⌝ }
-{
-    let n = counted(parsed);
+    let n = how_many(actions);
     let mut i = 0;
     while i < n {
-        let view = parsed.views[i];
+        let view = action_in(actions, i);
         if !keeps(region, view, rule) {
             return false;
         }
@@ -103,14 +91,14 @@ fn all_keep(region: &[u8], parsed: Parsed, rule: Rule) -> bool
     true
 }
 
-pub fn how_often(parsed: Parsed, kind: u8) -> usize
-    ensures { λ r. ⌜ r ≡ howOften kind (kindsIn parsed) ⌝ }
+pub fn how_often(actions: &[u64], kind: u8) -> usize
+    ensures { λ r. ⌜ r ≡ howOften kind (kindsIn (now (actions .entry))) ⌝ }
 {
-    let n = counted(parsed);
+    let n = how_many(actions);
     let mut times = 0;
     let mut i = 0;
     while i < n {
-        let view = parsed.views[i];
+        let view = action_in(actions, i);
         if view.kind == kind {
             times += 1;
         }
@@ -119,25 +107,25 @@ pub fn how_often(parsed: Parsed, kind: u8) -> usize
     times
 }
 
-fn both_lists(parsed: Parsed) -> bool
-    ensures { λ r. ⌜ r ≡ bothLists (kindsIn parsed) ⌝ }
+fn both_lists(actions: &[u64]) -> bool
+    ensures { λ r. ⌜ r ≡ bothLists (kindsIn (now (actions .entry))) ⌝ }
 {
-    if how_often(parsed, PROGRAM_WHITELIST) == 0 {
+    if how_often(actions, PROGRAM_WHITELIST) == 0 {
         return false;
     }
-    0 < how_often(parsed, PROGRAM_BLACKLIST)
+    0 < how_often(actions, PROGRAM_BLACKLIST)
 }
 
-fn sol_repeats(parsed: Parsed) -> bool
-    ensures { λ r. ⌜ r ≡ solRepeats (kindsIn parsed) ⌝ }
+fn sol_repeats(actions: &[u64]) -> bool
+    ensures { λ r. ⌜ r ≡ solRepeats (kindsIn (now (actions .entry))) ⌝ }
 {
-    if 1 < how_often(parsed, SOL_LIMIT) {
+    if 1 < how_often(actions, SOL_LIMIT) {
         return true;
     }
-    if 1 < how_often(parsed, SOL_RECURRING_LIMIT) {
+    if 1 < how_often(actions, SOL_RECURRING_LIMIT) {
         return true;
     }
-    1 < how_often(parsed, SOL_MAX_PER_TX)
+    1 < how_often(actions, SOL_MAX_PER_TX)
 }
 
 fn same_mint(region: &[u8], other: ActionView, view: ActionView) -> bool
@@ -149,13 +137,13 @@ fn same_mint(region: &[u8], other: ActionView, view: ActionView) -> bool
     key::same_key(key_of(region, other), key_of(region, view))
 }
 
-fn mint_again(region: &[u8], parsed: Parsed, view: ActionView, from: usize) -> bool
-    ensures { λ r. ⌜ r ≡ mintAgain (actionAt (now (region .entry)) view) (drop from (actionsAt (now (region .entry)) parsed)) ⌝ }
+fn mint_again(region: &[u8], actions: &[u64], view: ActionView, from: usize) -> bool
+    ensures { λ r. ⌜ r ≡ mintAgain (actionAt (now (region .entry)) view) (drop from (actionsIn (now (region .entry)) (now (actions .entry)))) ⌝ }
 {
-    let n = counted(parsed);
+    let n = how_many(actions);
     let mut i = from;
     while i < n {
-        let other = parsed.views[i];
+        let other = action_in(actions, i);
         if same_mint(region, other, view) {
             return true;
         }
@@ -164,23 +152,23 @@ fn mint_again(region: &[u8], parsed: Parsed, view: ActionView, from: usize) -> b
     false
 }
 
-fn mint_repeats_at(region: &[u8], parsed: Parsed, view: ActionView, from: usize) -> bool
-    ensures { λ r. ⌜ r ≡ (isToken (view .kind) && mintAgain (actionAt (now (region .entry)) view) (drop from (actionsAt (now (region .entry)) parsed))) ⌝ }
+fn mint_repeats_at(region: &[u8], actions: &[u64], view: ActionView, from: usize) -> bool
+    ensures { λ r. ⌜ r ≡ (isToken (view .kind) && mintAgain (actionAt (now (region .entry)) view) (drop from (actionsIn (now (region .entry)) (now (actions .entry))))) ⌝ }
 {
     if !is_token(view.kind) {
         return false;
     }
-    mint_again(region, parsed, view, from)
+    mint_again(region, actions, view, from)
 }
 
-fn mint_repeats(region: &[u8], parsed: Parsed) -> bool
-    ensures { λ r. ⌜ r ≡ mintRepeats (actionsAt (now (region .entry)) parsed) ⌝ }
+fn mint_repeats(region: &[u8], actions: &[u64]) -> bool
+    ensures { λ r. ⌜ r ≡ mintRepeats (actionsIn (now (region .entry)) (now (actions .entry))) ⌝ }
 {
-    let n = counted(parsed);
+    let n = how_many(actions);
     let mut i = 0;
     while i < n {
-        let view = parsed.views[i];
-        if mint_repeats_at(region, parsed, view, i + 1) {
+        let view = action_in(actions, i);
+        if mint_repeats_at(region, actions, view, i + 1) {
             return true;
         }
         i += 1;
@@ -189,23 +177,23 @@ fn mint_repeats(region: &[u8], parsed: Parsed) -> bool
 }
 
 // The first breach of a rule on the actions, each with its number.
-fn form(region: &[u8], parsed: Parsed, breach: u32, conflict: u32, ending: Rule) -> Answer
+fn form(region: &[u8], actions: &[u64], breach: u32, conflict: u32, ending: Rule) -> Answer
     requires { ⌜ (0 < breach) × (0 < conflict) ⌝ }
-    ensures { λ r. ⌜ r ≡ formOf breach conflict ending (actionsAt (now (region .entry)) parsed) ⌝ }
+    ensures { λ r. ⌜ r ≡ formOf breach conflict ending (actionsIn (now (region .entry)) (now (actions .entry))) ⌝ }
 {
-    if !all_keep(region, parsed, Rule::Length) {
+    if !all_keep(region, actions, Rule::Length) {
         return Answer::of(breach);
     }
-    if both_lists(parsed) {
+    if both_lists(actions) {
         return Answer::of(conflict);
     }
-    if sol_repeats(parsed) {
+    if sol_repeats(actions) {
         return Answer::of(breach);
     }
-    if mint_repeats(region, parsed) {
+    if mint_repeats(region, actions) {
         return Answer::of(breach);
     }
-    if !all_keep(region, parsed, ending) {
+    if !all_keep(region, actions, ending) {
         return Answer::of(breach);
     }
     Answer::of(ACCEPTED)
@@ -222,25 +210,24 @@ pub fn validate_actions_buffer(region: &[u8]) -> Answer
     }
     form(
         region,
-        parsed,
+        actions_in(&parsed.list, parsed.count),
         ACTION_BUFFER_INVALID,
         ACTION_WHITELIST_BLACKLIST_CONFLICT,
         Rule::Fresh,
     )
 }
 
-// The actions of a region in stored form; any breach is the one refusal.
-pub fn stored_actions(region: &[u8]) -> Parsed
-    ensures { λ r. ⌜ r ≡ parsedOf (storedActions (now (region .entry))) ⌝ }
+// What a judged call answers to a region that was cut: it was accepted, and is in stored form; any
+// breach is the one refusal.
+pub fn stored_answer(region: &[u8], cut: Answer, actions: &[u64]) -> Answer
+    ensures { λ r. ⌜ r ≡ storedAnswer cut (actionsIn (now (region .entry)) (now (actions .entry))) ⌝ }
 {
-    let parsed = parse_actions(region);
-    let answer = parsed.answer;
-    if !answer.accepts() {
-        return Parsed::refused(Answer::of(BAD_REGION));
+    if !cut.accepts() {
+        return Answer::of(BAD_REGION);
     }
-    let form = form(region, parsed, BAD_REGION, BAD_REGION, Rule::Windowed);
+    let form = form(region, actions, BAD_REGION, BAD_REGION, Rule::Windowed);
     if !form.accepts() {
-        return Parsed::refused(Answer::of(BAD_REGION));
+        return Answer::of(BAD_REGION);
     }
-    parsed
+    Answer::of(ACCEPTED)
 }

@@ -4,6 +4,7 @@ pub mod fields;
 pub mod form;
 pub mod mints;
 pub mod parse;
+pub mod row;
 
 use answer::Answer;
 
@@ -41,10 +42,11 @@ pub enum HeaderRead {
     Refused(Answer),
 }
 
-// A region's actions in order; past the count, and on a refusal everywhere, stands the zero view.
+// A region's actions in order, the four numbers of a view for each; zeros past the count, and on a
+// refusal everywhere. A row of numbers is lent where views would be copied.
 pub struct Parsed {
     pub answer: Answer,
-    pub views: [ActionView; 16],
+    pub list: [u64; 64],
     pub count: usize,
 }
 

@@ -10,7 +10,7 @@ use answer::Answer;
 ghost use mathlib.Core.Path.{_≡_};
 ghost use Rattle.answer.specs.Refusable.{refused};
 ghost use Rattle.action.specs.Region.{dataLength, cut, mostActions};
-ghost use Rattle.action.specs.Views.{headerAt, headerAnswer, parsedOf, zeroView};
+ghost use Rattle.action.specs.Views.{headerAt, headerAnswer, parsedOf};
 
 // The data lengths by type code, 0 for unknown codes.
 const DATA_LENGTHS: [usize; 12] = [0, 8, 32, 8, 40, 64, 40, 0, 0, 0, 32, 32];
@@ -66,19 +66,6 @@ pub fn header_answer(read: HeaderRead) -> Answer
     }
 }
 
-impl ActionView {
-    fn zero() -> Self
-        ensures { λ r. ⌜ r ≡ zeroView ⌝ }
-    {
-        ActionView {
-            kind: 0,
-            expires: 0,
-            at: 0,
-            len: 0,
-        }
-    }
-}
-
 impl Parsed {
     // A refusal has no views.
     pub fn refused(answer: Answer) -> Self
@@ -86,7 +73,7 @@ impl Parsed {
     {
         Parsed {
             answer,
-            views: [ActionView::zero(); 16],
+            list: [0u64; 64],
             count: 0,
         }
     }
@@ -95,7 +82,11 @@ impl Parsed {
 pub fn parse_actions(region: &[u8]) -> Parsed
     ensures { λ r. ⌜ r ≡ parsedOf (cut mostActions (now (region .entry))) ⌝ }
 {
-    let mut views = [ActionView::zero(); 16];
+    let mut parsed = Parsed {
+        answer: Answer::of(ACCEPTED),
+        list: [0u64; 64],
+        count: 0,
+    };
     let mut count = 0;
     let mut at = 0;
     while at < region.len() {
@@ -106,13 +97,13 @@ pub fn parse_actions(region: &[u8]) -> Parsed
         let HeaderRead::View(view) = read else {
             return Parsed::refused(header_answer(read));
         };
-        views[count] = view;
+        parsed.list[4 * count] = view.kind as u64;
+        parsed.list[4 * count + 1] = view.expires;
+        parsed.list[4 * count + 2] = view.at as u64;
+        parsed.list[4 * count + 3] = view.len as u64;
         count += 1;
         at = view.at + view.len;
     }
-    Parsed {
-        answer: Answer::of(ACCEPTED),
-        views,
-        count,
-    }
+    parsed.count = count;
+    parsed
 }

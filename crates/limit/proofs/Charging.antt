@@ -2,22 +2,22 @@
 -- Assumes nothing.
 use mathlib.Core.Path.{_≡_, refl, sym, ap, ap₂, _∙_}
 use mathlib.Core.Bool.{Bool, true, false, cond}
+use mathlib.Core.Logic.{_⊎_, inl, inr, ⊎-elim}
 use mathlib.Core.List.{List, [], _∷_, _++_, map}
-use Prim.Native.Nat.{ℕ, zero, suc, _+_, _<_, _≤_, min}
+use Prim.Native.Nat.{ℕ, zero, suc, _+_, _-_, _<_, _≤_, min}
+use native.Mathlib.Nat.{eq-zero-or-pos}
 use native.Mathlib.Omega.{arith}
-use lib.ListN.{length, getD, take, drop, drop-of-length-le, length-take}
-use lib.Seq.{drop-cons, drop-nil, getD-take}
+use lib.ListN.{length, getD, drop, length-drop}
+use lib.Seq.{drop-cons}
 use Rattle.answer.specs.declared.Answer.{Answer}
 use Rattle.answer.specs.Numbers.{answer, accepted, accepts, firstRefusal}
 use Rattle.answer.proofs.Laws.{first-passes, first-refuses, no-rule}
 use Rattle.action.specs.declared.ActionView.{ActionView}
 use Rattle.action.specs.declared.Change.{Change}
-use Rattle.action.specs.declared.Parsed.{Parsed}
 use Rattle.action.specs.Region.{Action}
 use Rattle.action.specs.Fields.{changed}
-use Rattle.action.specs.Views.{actionAt, actionsAt, viewsIn, writtenAt}
+use Rattle.action.specs.Views.{viewsOf, zeroView, actionAt, actionsIn, writtenAt}
 use Rattle.action.proofs.Views.{actions-step, length-actions}
-use Rattle.limit.specs.declared.Amounts.{Amounts}
 use Rattle.limit.specs.Limit.{Charge, ruleAnswer, ofClass, classAnswer, changeOf, settled}
 use Rattle.limit.specs.Views.{charges, chargesAt, settledViews, settledAt}
 
@@ -32,61 +32,75 @@ drop-charges (suc i) (a ∷ l) [] = sym (no-charges (drop i l))
     no-charges (b ∷ k) = refl
 drop-charges (suc i) (a ∷ l) (x ∷ xs) = drop-charges i l xs
 
+-- ---- past the last action, or the last amount
+
+none-left : {A B : Type 0} (l : List A) (k : List B) (i : ℕ) → min (length l) (length k) ≤ i → (length (drop i l) ≡ 0) ⊎ (length (drop i k) ≡ 0)
+none-left l k i past =
+    ⊎-elim
+    (λ (e : length l - i ≡ 0). inl (simp length-drop e))
+    (λ (p : 0 < length l - i). inr (simp length-drop (omega arith)))
+    (eq-zero-or-pos (length l - i))
+
+none-charged : (l : List Action) (xs : List ℕ) → (length l ≡ 0) ⊎ (length xs ≡ 0) → charges l xs ≡ []
+unfolding charges
+none-charged [] xs h = refl
+none-charged (a ∷ l) [] h = refl
+none-charged (a ∷ l) (x ∷ xs) h = absurd (⊎-elim (λ e. omega arith) (λ e. omega arith) h)
+
+none-settled : (slot : ℕ) (vs : List ActionView) (xs s : List ℕ) → (length vs ≡ 0) ⊎ (length xs ≡ 0) → settledViews slot vs xs s ≡ s
+unfolding settledViews
+none-settled slot [] xs s h = refl
+none-settled slot (v ∷ vs) [] s h = refl
+none-settled slot (v ∷ vs) (x ∷ xs) s h = absurd (⊎-elim (λ e. omega arith) (λ e. omega arith) h)
+
 -- ---- a class's rules
 
 -- what a class answers to one charge
 abbrev pub oneAnswer : Bool → ℕ → Charge → Answer
 oneAnswer tokens slot c = cond (ofClass tokens (c .act .kind)) (ruleAnswer slot c) (answer accepted)
 
-module _ (tokens : Bool) (slot : ℕ) (s : List ℕ) (p : Parsed) (amounts : Amounts) (i : ℕ) where
-  module _ (d : ActionView) (hc : i < p .count) (hv : i < length (p .views)) (hx : i < length (amounts .list)) where
-    here : Charge
-    here = record { act = actionAt s (getD (p .views) i d); amount = getD (amounts .list) i 0 }
+module _ (tokens : Bool) (slot : ℕ) (s row amounts : List ℕ) (i : ℕ) where
+  module _ (v : ActionView) (here : v ≡ getD (viewsOf row) i zeroView) (h : i < length (viewsOf row)) (hx : i < length amounts) where
+    charge : Charge
+    charge = record { act = actionAt s v; amount = getD amounts i 0 }
 
-    charge-step : drop i (chargesAt s p amounts) ≡ here ∷ drop (suc i) (chargesAt s p amounts)
-    unfolding chargesAt charges here
+    charge-step : drop i (chargesAt s row amounts) ≡ charge ∷ drop (suc i) (chargesAt s row amounts)
+    unfolding chargesAt charges charge
     charge-step =
-        drop-charges i (actionsAt s p) (amounts .list)
-        ∙ rw (actions-step s p i d hc hv, drop-cons (amounts .list) i 0 hx)
-        (ap (λ (l : List Charge). record { act = actionAt s (getD (p .views) i d); amount = getD (amounts .list) i 0 } ∷ l) (sym (drop-charges (suc i) (actionsAt s p) (amounts .list))))
+        drop-charges i (actionsIn s row) amounts
+        ∙ rw (here, actions-step s row i zeroView h, drop-cons amounts i 0 hx)
+        (ap (λ (l : List Charge). record { act = actionAt s (getD (viewsOf row) i zeroView); amount = getD amounts i 0 } ∷ l) (sym (drop-charges (suc i) (actionsIn s row) amounts)))
 
-    pub class-refused : (a : Answer) → a ≡ oneAnswer tokens slot (record { act = actionAt s (getD (p .views) i d); amount = getD (amounts .list) i 0 }) → accepts a ≡ false
-        → classAnswer tokens slot (drop i (chargesAt s p amounts)) ≡ a
-    unfolding classAnswer here
+    pub class-refused : (a : Answer) → a ≡ oneAnswer tokens slot (record { act = actionAt s v; amount = getD amounts i 0 }) → accepts a ≡ false
+        → classAnswer tokens slot (drop i (chargesAt s row amounts)) ≡ a
+    unfolding classAnswer charge
     class-refused a e h = rw (charge-step, ← e) (first-refuses a _ h)
 
-    pub class-passed : (a : Answer) → a ≡ oneAnswer tokens slot (record { act = actionAt s (getD (p .views) i d); amount = getD (amounts .list) i 0 }) → accepts a ≡ true
-        → classAnswer tokens slot (drop i (chargesAt s p amounts)) ≡ classAnswer tokens slot (drop (suc i) (chargesAt s p amounts))
-    unfolding classAnswer here
+    pub class-passed : (a : Answer) → a ≡ oneAnswer tokens slot (record { act = actionAt s v; amount = getD amounts i 0 }) → accepts a ≡ true
+        → classAnswer tokens slot (drop i (chargesAt s row amounts)) ≡ classAnswer tokens slot (drop (suc i) (chargesAt s row amounts))
+    unfolding classAnswer charge
     class-passed a e h = rw (charge-step, ← e) (first-passes a _ h)
 
-  pub class-end : min (p .count) (length (p .views)) ≤ i → classAnswer tokens slot (drop i (chargesAt s p amounts)) ≡ answer accepted
-  unfolding classAnswer chargesAt charges
-  class-end past =
-      let short : length (actionsAt s p) ≤ i = rw (length-actions s p) past in
-      rw (drop-charges i (actionsAt s p) (amounts .list), drop-of-length-le (actionsAt s p) short) no-rule
+  pub class-end : min (length (viewsOf row)) (length amounts) ≤ i → classAnswer tokens slot (drop i (chargesAt s row amounts)) ≡ answer accepted
+  unfolding classAnswer chargesAt
+  class-end past = rw (drop-charges i (actionsIn s row) amounts, none-charged _ _ past-one) no-rule
+    where
+      past-one : (length (drop i (actionsIn s row)) ≡ 0) ⊎ (length (drop i amounts) ≡ 0)
+      past-one = none-left (actionsIn s row) amounts i (rw (length-actions s row) past)
 
 -- ---- settling
 
-module _ (slot : ℕ) (p : Parsed) (amounts : Amounts) (i : ℕ) (s : List ℕ) where
-  pub settle-step : (d : ActionView) (change : Change) → i < p .count → i < length (p .views) → i < length (amounts .list)
-      → change ≡ changeOf slot (record { act = actionAt s (getD (p .views) i d); amount = getD (amounts .list) i 0 })
-      → settledViews slot (drop i (viewsIn p)) (drop i (amounts .list)) s
-      ≡ settledViews slot (drop (suc i) (viewsIn p)) (drop (suc i) (amounts .list))
-      (writtenAt s (getD (p .views) i d) (changed change (actionAt s (getD (p .views) i d))))
-  unfolding settledViews settled viewsIn
-  settle-step d change hc hv hx e =
-      let counted = take (p .count) (p .views) in
-      let inside : i < length counted = rw (length-take (p .count) (p .views)) (omega arith) in
-      rw (drop-cons counted i d inside, getD-take (p .count) (p .views) i d, drop-cons (amounts .list) i 0 hx, e)
+module _ (slot : ℕ) (row amounts : List ℕ) (i : ℕ) (s : List ℕ) where
+  pub settle-step : (v : ActionView) (change : Change) → v ≡ getD (viewsOf row) i zeroView → i < length (viewsOf row) → i < length amounts
+      → change ≡ changeOf slot (record { act = actionAt s v; amount = getD amounts i 0 })
+      → settledViews slot (drop i (viewsOf row)) (drop i amounts) s
+      ≡ settledViews slot (drop (suc i) (viewsOf row)) (drop (suc i) amounts) (writtenAt s v (changed change (actionAt s v)))
+  unfolding settledViews settled
+  settle-step v change here h hx e = rw (e, here, drop-cons (viewsOf row) i zeroView h, drop-cons amounts i 0 hx)
 
-  pub settle-end : min (p .count) (length (p .views)) ≤ i → settledViews slot (drop i (viewsIn p)) (drop i (amounts .list)) s ≡ s
-  unfolding settledViews viewsIn
-  settle-end past =
-      let counted = take (p .count) (p .views) in
-      let short : length counted ≤ i = rw (length-take (p .count) (p .views)) past in
-      rw (drop-of-length-le counted short)
+  pub settle-end : min (length (viewsOf row)) (length amounts) ≤ i → settledViews slot (drop i (viewsOf row)) (drop i amounts) s ≡ s
+  settle-end past = none-settled slot _ _ s (none-left (viewsOf row) amounts i past)
 
-pub settle-all : (slot : ℕ) (p : Parsed) (amounts : Amounts) (s : List ℕ) → settledAt slot p amounts s ≡ settledViews slot (viewsIn p) (amounts .list) s
+pub settle-all : (slot : ℕ) (row amounts s : List ℕ) → settledAt slot row amounts s ≡ settledViews slot (viewsOf row) amounts s
 unfolding settledAt
-settle-all slot p amounts s = refl
+settle-all slot row amounts s = refl

@@ -4,15 +4,11 @@ use mathlib.Core.Path.{_≡_, refl, sym, ap, ap₂, _∙_}
 use mathlib.Core.List.{List, [], _∷_, _++_, map, append-assoc, append-nil}
 use Prim.Native.Nat.{ℕ, _+_, _-_, _≤_}
 use native.Mathlib.Omega.{arith}
-use lib.ListN.{length, replicate, length-append}
-use lib.Seq.{take-at}
-use Rattle.answer.specs.Refusable.{given}
+use lib.ListN.{length, length-append}
 use Rattle.action.specs.Region.{Action, glueOne, glue}
-use Rattle.action.specs.Views.{actionAt, viewAt, placed, viewsIn, parsedOf, writtenAt, zeroView}
+use Rattle.action.specs.Views.{actionAt, viewAt, placed, viewsOf, writtenAt}
 use Rattle.action.proofs.Changing.{changed-kind, changed-expires, changed-length}
 use Rattle.action.proofs.Gluing.{glue-append, length-glueOne, glued-action, glued-written}
-use Rattle.action.proofs.Parsing.{length-placed}
-use Rattle.limit.specs.declared.Amounts.{Amounts}
 use Rattle.limit.specs.Limit.{Charge, changeOf, settled}
 use Rattle.limit.specs.Views.{charges, settledViews, settledAt}
 
@@ -68,8 +64,7 @@ settle-from slot (a ∷ l) (x ∷ xs) done h =
     ∙ ap glue (append-assoc done (b ∷ []) (map (settled slot) (charges l xs)))
 
 -- settling a region where its actions lie is gluing the settled actions
-pub settle-glued : (slot : ℕ) (l : List Action) (amounts : Amounts) → length l ≤ length (amounts .list)
-    → settledAt slot (parsedOf (given l)) amounts (glue l) ≡ glue (map (settled slot) (charges l (amounts .list)))
-unfolding settledAt viewsIn parsedOf glue
-settle-glued slot l amounts h =
-    rw (take-at (placed 0 l) (replicate (16 - length l) zeroView) (length l) (length-placed 0 l)) (settle-from slot l (amounts .list) [] h)
+pub settle-glued : (slot : ℕ) (l : List Action) (row amounts : List ℕ) → viewsOf row ≡ placed 0 l → length l ≤ length amounts
+    → settledAt slot row amounts (glue l) ≡ glue (map (settled slot) (charges l amounts))
+unfolding settledAt glue
+settle-glued slot l row amounts e h = rw e (settle-from slot l amounts [] h)

@@ -3,10 +3,8 @@
 use Prim.Native.Nat.{ℕ}
 use mathlib.Core.List.{List, [], _∷_}
 use Rattle.action.specs.declared.ActionView.{ActionView}
-use Rattle.action.specs.declared.Parsed.{Parsed}
 use Rattle.action.specs.Region.{Action}
-use Rattle.action.specs.Views.{actionAt, actionsAt, viewsIn, writtenAt}
-use Rattle.limit.specs.declared.Amounts.{Amounts}
+use Rattle.action.specs.Views.{viewsOf, actionAt, actionsIn, writtenAt}
 use Rattle.limit.specs.Limit.{Charge, settled}
 
 -- actions with an amount each, as far as both go
@@ -15,10 +13,10 @@ charges [] xs = []
 charges (a ∷ l) [] = []
 charges (a ∷ l) (x ∷ xs) = record { act = a; amount = x } ∷ charges l xs
 
--- the charges of the counted views
-unfoldable pub chargesAt : List ℕ → Parsed → Amounts → List Charge
+-- the charges of the actions of a row
+unfoldable pub chargesAt : List ℕ → List ℕ → List ℕ → List Charge
 unfolding charges
-chargesAt s p amounts = charges (actionsAt s p) (amounts .list)
+chargesAt s row amounts = charges (actionsIn s row) amounts
 
 -- a region after each view's action is settled where it lies, one after the other
 unfoldable pub settledViews : ℕ → List ActionView → List ℕ → List ℕ → List ℕ
@@ -26,7 +24,7 @@ settledViews slot [] xs s = s
 settledViews slot (v ∷ vs) [] s = s
 settledViews slot (v ∷ vs) (x ∷ xs) s = settledViews slot vs xs (writtenAt s v (settled slot (record { act = actionAt s v; amount = x })))
 
--- the same for the counted views
-unfoldable pub settledAt : ℕ → Parsed → Amounts → List ℕ → List ℕ
+-- the same for the actions of a row
+unfoldable pub settledAt : ℕ → List ℕ → List ℕ → List ℕ → List ℕ
 unfolding settledViews
-settledAt slot p amounts s = settledViews slot (viewsIn p) (amounts .list) s
+settledAt slot row amounts s = settledViews slot (viewsOf row) amounts s

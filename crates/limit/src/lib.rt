@@ -2,7 +2,6 @@
 // from the part of the region that they lie in.
 use action::ActionView;
 use action::Change;
-use action::Parsed;
 use action::SOL_LIMIT;
 use action::SOL_MAX_PER_TX;
 use action::SOL_RECURRING_LIMIT;
@@ -17,7 +16,8 @@ use action::fields::limit;
 use action::fields::remaining;
 use action::fields::spent;
 use action::fields::window;
-use action::form::counted;
+use action::row::action_in;
+use action::row::how_many;
 use answer::ACCEPTED;
 use answer::Answer;
 use number::capped_sum;
@@ -25,15 +25,11 @@ use number::floored_difference;
 ghost use mathlib.Core.Path.{_≡_};
 ghost use mathlib.Core.Bool.{cond};
 ghost use Rattle.answer.specs.Numbers.{answer, accepted};
-ghost use Prim.Native.Nat.{_*_, _/_};
-ghost use Rattle.action.specs.Views.{actionAt};
+ghost use Prim.Native.Nat.{_*_, _/_, min};
+ghost use lib.ListN.{length};
+ghost use Rattle.action.specs.Views.{viewsOf, actionAt};
 ghost use Rattle.limit.specs.Limit.{refusalOf, windowOver, base, above as isAbove, breaks as doesBreak, ruleAnswer, isSol, ofClass, classAnswer, spentChange, isLimit, liveChange, changeOf};
 ghost use Rattle.limit.specs.Views.{chargesAt, settledAt};
-
-// The amount that the rule of each action looks at.
-pub struct Amounts {
-    pub list: [u64; 16],
-}
 
 // The refusal of each type's rule by its code, 0 where it has none.
 const REFUSALS: [u32; 12] = [0, 7, 8, 6, 10, 11, 9, 0, 0, 0, 0, 0];
@@ -120,21 +116,30 @@ fn class_rule(region: &[u8], view: ActionView, tokens: bool, slot: u64, amount: 
     Answer::of(ACCEPTED)
 }
 
-// What the rules of one class, the tokens' or SOL's, answer, in region order.
+// How many actions of a row there is an amount for.
+fn charged(actions: &[u64], amounts: &[u64]) -> usize
+    ensures { λ r. ⌜ r ≡ min (length (viewsOf (now (actions .entry)))) (length (now (amounts .entry))) ⌝ }
+{
+    let n = how_many(actions);
+    if n < amounts.len() { n } else { amounts.len() }
+}
+
+// What the rules of one class, the tokens' or SOL's, answer, in region order and as far as there are
+// amounts.
 pub fn class_answer(
     region: &[u8],
-    parsed: Parsed,
-    amounts: Amounts,
+    actions: &[u64],
+    amounts: &[u64],
     tokens: bool,
     slot: u64,
 ) -> Answer
-    ensures { λ r. ⌜ r ≡ classAnswer tokens slot (chargesAt (now (region .entry)) parsed amounts) ⌝ }
+    ensures { λ r. ⌜ r ≡ classAnswer tokens slot (chargesAt (now (region .entry)) (now (actions .entry)) (now (amounts .entry))) ⌝ }
 {
-    let n = counted(parsed);
+    let n = charged(actions, amounts);
     let mut i = 0;
     while i < n {
-        let view = parsed.views[i];
-        let amount = amounts.list[i];
+        let view = action_in(actions, i);
+        let amount = amounts[i];
         let answer = class_rule(region, view, tokens, slot, amount);
         if !answer.accepts() {
             return answer;
@@ -198,15 +203,16 @@ pub fn change_of(region: &[u8], view: ActionView, slot: u64, amount: u64) -> Cha
     live_change(region, view, slot, amount)
 }
 
-// Writes what an accepted call changes, action by action; no other byte changes.
-pub fn settle(region: &mut [u8], parsed: Parsed, amounts: Amounts, slot: u64)
-    ensures { λ _. ⌜ now (region .exit) ≡ settledAt slot parsed amounts (now (region .entry)) ⌝ }
+// Writes what an accepted call changes, action by action as far as there are amounts; no other byte
+// changes.
+pub fn settle(region: &mut [u8], actions: &[u64], amounts: &[u64], slot: u64)
+    ensures { λ _. ⌜ now (region .exit) ≡ settledAt slot (now (actions .entry)) (now (amounts .entry)) (now (region .entry)) ⌝ }
 {
-    let n = counted(parsed);
+    let n = charged(actions, amounts);
     let mut i = 0;
     while i < n {
-        let view = parsed.views[i];
-        let amount = amounts.list[i];
+        let view = action_in(actions, i);
+        let amount = amounts[i];
         let change = change_of(region, view, slot, amount);
         apply_change(region, view, change);
         i += 1;

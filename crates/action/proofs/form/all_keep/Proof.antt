@@ -1,35 +1,32 @@
 -- `action::form::all_keep` meets its contract. The loop's invariant: all keep the rule where all from `i` on do.
 -- Assumes nothing.
-use Prim.Native.Nat.{_+_, _-_, _≤_, min}
+use Prim.Native.Nat.{_+_, _-_, _≤_}
 use mathlib.Core.Path.{_≡_, refl, sym, _∙_}
 use native.Mathlib.Numerals.{add-one}
 use native.Mathlib.Omega.{arith}
-use lib.ListN.{length, drop, length-map}
+use lib.ListN.{length, drop}
 use borrow.Author.Tests.{not-true, not-false}
 use Rattle.action.specs.Creation.{allKeep}
-use Rattle.action.specs.Views.{actionsAt}
+use Rattle.action.specs.Views.{viewsOf, actionsIn}
 use Rattle.action.proofs.Scanning.{keep-passed, keep-broken, keep-end}
 use Rattle.action.proofs.form.all_keep.Statement.{statement}
 use Rattle.action.proofs.form.all_keep.Tie as tie
 
 abbrev Inv-loop : tie.InvT-loop
-Inv-loop region rule parsed n i₀ i =
-    (i ≤ n) × (n ≡ min (parsed .count) 16) × (allKeep rule (drop i (actionsAt region parsed)) ≡ allKeep rule (actionsAt region parsed))
+Inv-loop region actions rule n i₀ i =
+    (i ≤ n) × (n ≡ length (viewsOf actions)) × (allKeep rule (drop i (actionsIn region actions)) ≡ allKeep rule (actionsIn region actions))
 
 abbrev μ-loop : tie.MeasureT-loop
-μ-loop region rule parsed n i₀ i = n - i
+μ-loop region actions rule n i₀ i = n - i
 
-counted-requires : tie.Need-counted-requires Inv-loop μ-loop
-counted-requires c κs = tt
+how-many-requires : tie.Need-how-many-requires Inv-loop μ-loop
+how-many-requires c κs = tt
 
 loop-holds : tie.Need-loop-holds Inv-loop μ-loop
-loop-holds c = (omega arith, c .counted .ensures, refl)
+loop-holds c = (omega arith, c .how-many .ensures, refl)
 
-mul-view : tie.Need-mul-view Inv-loop μ-loop
-mul-view c = omega arith
-
-element-copy-out-view : tie.Need-element-copy-out-view Inv-loop μ-loop
-element-copy-out-view c = omega arith
+action-in-requires : tie.Need-action-in-requires Inv-loop μ-loop
+action-in-requires c κs = tt
 
 keeps-requires : tie.Need-keeps-requires Inv-loop μ-loop
 keeps-requires c κs = tt
@@ -37,12 +34,11 @@ keeps-requires c κs = tt
 returns : tie.Need-returns Inv-loop μ-loop
 returns c =
     let at-loop = c .before .before .before .before in
-    let start = at-loop .before .before .before in
-    let parsed = start .args .t2 in
-    let long : length (parsed .views) ≡ 16 = simp length-map at (start .good .1 .0 .1 .1 .1 .0 .1 .0 .1) in
+    let start = at-loop .before .before .before .before in
+    let row = start .args .actions .now in
     sym
     (sym (at-loop .loop .inv .2)
-    ∙ keep-broken parsed (at-loop .loop .i) _ (omega arith) (omega arith) _ (start .args .rule) (sym (c .before .keeps .ensures) ∙ not-true _ (c .if1 .taken)))
+    ∙ keep-broken row (at-loop .loop .i) _ (c .before .before .action-in .ensures) (omega arith) _ (start .args .rule) (sym (c .before .keeps .ensures) ∙ not-true _ (c .if1 .taken)))
 
 add-i : tie.Need-add-i Inv-loop μ-loop
 add-i c = omega arith
@@ -54,23 +50,21 @@ loop-again : tie.Need-loop-again Inv-loop μ-loop
 loop-again c =
     let at-loop = c .before .before .before .before in
     let i = at-loop .loop .i in
-    let start = at-loop .before .before .before in
-    let parsed = start .args .t2 in
-    let long : length (parsed .views) ≡ 16 = simp length-map at (start .good .1 .0 .1 .1 .1 .0 .1 .0 .1) in (
+    let start = at-loop .before .before .before .before in
+    let row = start .args .actions .now in (
       omega arith,
       at-loop .loop .inv .1,
       rw (add-one i)
-          (sym (keep-passed parsed i _ (omega arith) (omega arith) _ (start .args .rule) (sym (c .before .keeps .ensures) ∙ not-false _ (c .if1 .left)))
+          (sym (keep-passed row i _ (c .before .before .action-in .ensures) (omega arith) _ (start .args .rule) (sym (c .before .keeps .ensures) ∙ not-false _ (c .if1 .left)))
           ∙ at-loop .loop .inv .2),
     )
 
 returns-2 : tie.Need-returns-2 Inv-loop μ-loop
 returns-2 c =
     let at-loop = c .before in
-    let start = at-loop .before .before .before in
-    let parsed = start .args .t2 in
-    let long : length (parsed .views) ≡ 16 = simp length-map at (start .good .1 .0 .1 .1 .1 .0 .1 .0 .1) in
-    sym (sym (at-loop .loop .inv .2) ∙ keep-end _ parsed (at-loop .loop .i) (omega arith) (start .args .rule))
+    let start = at-loop .before .before .before .before in
+    let row = start .args .actions .now in
+    sym (sym (at-loop .loop .inv .2) ∙ keep-end _ row (at-loop .loop .i) (omega arith) (start .args .rule))
 
 pub all-keep-spec : {M : Type 1} → statement M
 all-keep-spec =
@@ -78,10 +72,9 @@ all-keep-spec =
     (tie.spec
     Inv-loop
     μ-loop
-    counted-requires
+    how-many-requires
     loop-holds
-    mul-view
-    element-copy-out-view
+    action-in-requires
     keeps-requires
     returns
     add-i

@@ -12,13 +12,13 @@ how-often-requires : tie.Need-how-often-requires
 how-often-requires c κs = search needs
 
 returns : tie.Need-returns
-returns c = sym (no-whitelist (kindsIn (c .before .before .args .parsed)) (omega arith))
+returns c = sym (no-whitelist (kindsIn (c .before .before .before .args .actions .now)) (omega arith))
 
 how-often-requires-2 : tie.Need-how-often-requires-2
 how-often-requires-2 c κs = search needs
 
 returns-2 : tie.Need-returns-2
-returns-2 c = rw (c .how-often2 .ensures) (sym (a-whitelist (kindsIn (c .before .before .before .args .parsed)) (omega arith)))
+returns-2 c = rw (c .how-often2 .ensures) (sym (a-whitelist (kindsIn (c .before .before .before .before .args .actions .now)) (omega arith)))
 
 pub both-lists-spec : {M : Type 1} → statement M
 both-lists-spec = tie.close (tie.spec how-often-requires returns how-often-requires-2 returns-2)

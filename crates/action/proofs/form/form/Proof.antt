@@ -6,7 +6,7 @@ use mathlib.Core.Bool.{true, false}
 use mathlib.Core.List.{List}
 use Rattle.action.specs.declared.Rule.the-variants.{Length}
 use Rattle.action.specs.Region.{Action}
-use Rattle.action.specs.Views.{actionsAt}
+use Rattle.action.specs.Views.{actionsIn}
 use Rattle.action.specs.Creation.{allKeep, kindsOf, bothLists, solRepeats, mintRepeats}
 use Rattle.action.proofs.Scanning.{kinds-of-actions}
 use Rattle.action.proofs.Forms.{form-length, form-conflict, form-sol, form-mint, form-ending, form-kept}
@@ -16,18 +16,18 @@ use Rattle.action.proofs.form.form.Tie as tie
 
 -- the actions that are looked at, past each test
 abbrev acts : tie.Start → List Action
-acts c = actionsAt (c .args .region .now) (c .args .parsed)
+acts c = actionsIn (c .args .region .now) (c .args .actions .now)
 
-lengths-kept : (c : tie.Else1) → allKeep Length (acts (c .before .before .before)) ≡ true
+lengths-kept : (c : tie.Else1) → allKeep Length (acts (c .before .before .before .before)) ≡ true
 lengths-kept c = sym (c .before .all-keep .ensures) ∙ not-false _ (c .if1 .left)
 
-no-conflict : (c : tie.Else2) → bothLists (kindsOf (acts (c .before .before .before .before .before))) ≡ false
+no-conflict : (c : tie.Else2) → bothLists (kindsOf (acts (c .before .before .before .before .before .before))) ≡ false
 no-conflict c = ap bothLists (kinds-of-actions _ _) ∙ sym (c .before .both-lists .ensures) ∙ c .if2 .left
 
-no-second : (c : tie.Else3) → solRepeats (kindsOf (acts (c .before .before .before .before .before .before .before))) ≡ false
+no-second : (c : tie.Else3) → solRepeats (kindsOf (acts (c .before .before .before .before .before .before .before .before))) ≡ false
 no-second c = ap solRepeats (kinds-of-actions _ _) ∙ sym (c .before .sol-repeats .ensures) ∙ c .if3 .left
 
-no-mint-twice : (c : tie.Else4) → mintRepeats (acts (c .before .before .before .before .before .before .before .before .before)) ≡ false
+no-mint-twice : (c : tie.Else4) → mintRepeats (acts (c .before .before .before .before .before .before .before .before .before .before)) ≡ false
 no-mint-twice c = sym (c .before .mint-repeats .ensures) ∙ c .if4 .left
 
 all-keep-requires : tie.Need-all-keep-requires
@@ -38,7 +38,7 @@ of-requires c κs = search needs
 
 returns : tie.Need-returns
 returns c =
-    let pre = c .before .before .before .before .pre in
+    let pre = c .before .before .before .before .before .pre in
     c .of .ensures ∙ sym (form-length _ _ _ _ (pre .0) (pre .1) (sym (c .before .before .all-keep .ensures) ∙ not-true _ (c .before .if1 .taken)))
 
 both-lists-requires : tie.Need-both-lists-requires
@@ -49,7 +49,7 @@ of-requires-2 c κs = search needs
 
 returns-2 : tie.Need-returns-2
 returns-2 c =
-    let pre = c .before .before .before .before .before .before .pre in
+    let pre = c .before .before .before .before .before .before .before .pre in
     c .of2 .ensures
     ∙ sym
     (form-conflict _ _ _ _ (pre .0) (pre .1) (lengths-kept (c .before .before .before))
@@ -63,7 +63,7 @@ of-requires-3 c κs = search needs
 
 returns-3 : tie.Need-returns-3
 returns-3 c =
-    let pre = c .before .before .before .before .before .before .before .before .pre in
+    let pre = c .before .before .before .before .before .before .before .before .before .pre in
     c .of3 .ensures
     ∙ sym
     (form-sol _ _ _ _ (pre .0) (pre .1) (lengths-kept (c .before .before .before .before .before)) (no-conflict (c .before .before .before))
@@ -77,7 +77,7 @@ of-requires-4 c κs = search needs
 
 returns-4 : tie.Need-returns-4
 returns-4 c =
-    let pre = c .before .before .before .before .before .before .before .before .before .before .pre in
+    let pre = c .before .before .before .before .before .before .before .before .before .before .before .pre in
     c .of4 .ensures
     ∙ sym
     (form-mint _ _ _ _ (pre .0) (pre .1) (lengths-kept (c .before .before .before .before .before .before .before)) (no-conflict (c .before .before .before .before .before)) (no-second (c .before .before .before))
@@ -91,7 +91,7 @@ of-requires-5 c κs = search needs
 
 returns-5 : tie.Need-returns-5
 returns-5 c =
-    let pre = c .before .before .before .before .before .before .before .before .before .before .before .before .pre in
+    let pre = c .before .before .before .before .before .before .before .before .before .before .before .before .before .pre in
     c .of5 .ensures
     ∙ sym
     (form-ending _ _ _ _ (pre .0) (pre .1) (lengths-kept (c .before .before .before .before .before .before .before .before .before)) (no-conflict (c .before .before .before .before .before .before .before)) (no-second (c .before .before .before .before .before)) (no-mint-twice (c .before .before .before))
@@ -102,7 +102,7 @@ of-requires-6 c κs = search needs
 
 returns-6 : tie.Need-returns-6
 returns-6 c =
-    let pre = c .before .before .before .before .before .before .before .before .before .before .before .before .pre in
+    let pre = c .before .before .before .before .before .before .before .before .before .before .before .before .before .pre in
     c .of6 .ensures
     ∙ sym
     (form-kept _ _ _ _ (pre .0) (pre .1) (lengths-kept (c .before .before .before .before .before .before .before .before .before)) (no-conflict (c .before .before .before .before .before .before .before)) (no-second (c .before .before .before .before .before)) (no-mint-twice (c .before .before .before))

@@ -1,35 +1,32 @@
 -- `action::form::mint_again` meets its contract. The loop's invariant: the mint is there again from `from` on where it is from `i` on.
 -- Assumes nothing.
-use Prim.Native.Nat.{_+_, _-_, _≤_, min}
+use Prim.Native.Nat.{_+_, _-_, _≤_}
 use mathlib.Core.Path.{_≡_, refl, sym, _∙_}
 use native.Mathlib.Numerals.{add-one}
 use native.Mathlib.Omega.{arith}
-use lib.ListN.{length, drop, length-map}
+use lib.ListN.{length, drop}
 use Rattle.action.specs.Creation.{mintAgain}
-use Rattle.action.specs.Views.{actionAt, actionsAt}
+use Rattle.action.specs.Views.{viewsOf, actionAt, actionsIn}
 use Rattle.action.proofs.Scanning.{again-found, again-passed, again-end}
 use Rattle.action.proofs.form.mint_again.Statement.{statement}
 use Rattle.action.proofs.form.mint_again.Tie as tie
 
 abbrev Inv-loop : tie.InvT-loop
-Inv-loop region view from parsed n i₀ i =
-    (n ≡ min (parsed .count) 16)
-    × (mintAgain (actionAt region view) (drop i (actionsAt region parsed)) ≡ mintAgain (actionAt region view) (drop from (actionsAt region parsed)))
+Inv-loop region actions view from n i₀ i =
+    (n ≡ length (viewsOf actions))
+    × (mintAgain (actionAt region view) (drop i (actionsIn region actions)) ≡ mintAgain (actionAt region view) (drop from (actionsIn region actions)))
 
 abbrev μ-loop : tie.MeasureT-loop
-μ-loop region view from parsed n i₀ i = n - i
+μ-loop region actions view from n i₀ i = n - i
 
-counted-requires : tie.Need-counted-requires Inv-loop μ-loop
-counted-requires c κs = tt
+how-many-requires : tie.Need-how-many-requires Inv-loop μ-loop
+how-many-requires c κs = tt
 
 loop-holds : tie.Need-loop-holds Inv-loop μ-loop
-loop-holds c = (c .counted .ensures, refl)
+loop-holds c = (c .how-many .ensures, refl)
 
-mul-other : tie.Need-mul-other Inv-loop μ-loop
-mul-other c = omega arith
-
-element-copy-out-other : tie.Need-element-copy-out-other Inv-loop μ-loop
-element-copy-out-other c = omega arith
+action-in-requires : tie.Need-action-in-requires Inv-loop μ-loop
+action-in-requires c κs = tt
 
 same-mint-requires : tie.Need-same-mint-requires Inv-loop μ-loop
 same-mint-requires c κs = tt
@@ -38,12 +35,11 @@ returns : tie.Need-returns Inv-loop μ-loop
 unfolding actionAt
 returns c =
     let at-loop = c .before .before .before .before in
-    let start = at-loop .before .before .before in
-    let parsed = start .args .t2 in
-    let long : length (parsed .views) ≡ 16 = simp length-map at (start .good .1 .0 .1 .1 .1 .0 .1 .0 .1) in
+    let start = at-loop .before .before .before .before in
+    let row = start .args .actions .now in
     sym
     (sym (at-loop .loop .inv .1)
-    ∙ again-found parsed (at-loop .loop .i) _ (omega arith) (omega arith) _ _ (sym (c .before .same-mint .ensures) ∙ c .if1 .taken))
+    ∙ again-found row (at-loop .loop .i) _ (c .before .before .action-in .ensures) (omega arith) _ _ (sym (c .before .same-mint .ensures) ∙ c .if1 .taken))
 
 add-i : tie.Need-add-i Inv-loop μ-loop
 add-i c = omega arith
@@ -56,22 +52,20 @@ unfolding actionAt
 loop-again c =
     let at-loop = c .before .before .before .before in
     let i = at-loop .loop .i in
-    let start = at-loop .before .before .before in
-    let parsed = start .args .t2 in
-    let long : length (parsed .views) ≡ 16 = simp length-map at (start .good .1 .0 .1 .1 .1 .0 .1 .0 .1) in (
+    let start = at-loop .before .before .before .before in
+    let row = start .args .actions .now in (
       at-loop .loop .inv .0,
       rw (add-one i)
-          (sym (again-passed parsed i _ (omega arith) (omega arith) _ _ (sym (c .before .same-mint .ensures) ∙ c .if1 .left))
+          (sym (again-passed row i _ (c .before .before .action-in .ensures) (omega arith) _ _ (sym (c .before .same-mint .ensures) ∙ c .if1 .left))
           ∙ at-loop .loop .inv .1),
     )
 
 returns-2 : tie.Need-returns-2 Inv-loop μ-loop
 returns-2 c =
     let at-loop = c .before in
-    let start = at-loop .before .before .before in
-    let parsed = start .args .t2 in
-    let long : length (parsed .views) ≡ 16 = simp length-map at (start .good .1 .0 .1 .1 .1 .0 .1 .0 .1) in
-    sym (sym (at-loop .loop .inv .1) ∙ again-end _ parsed (at-loop .loop .i) (omega arith) _)
+    let start = at-loop .before .before .before .before in
+    let row = start .args .actions .now in
+    sym (sym (at-loop .loop .inv .1) ∙ again-end _ row (at-loop .loop .i) (omega arith) _)
 
 pub mint-again-spec : {M : Type 1} → statement M
 mint-again-spec =
@@ -79,10 +73,9 @@ mint-again-spec =
     (tie.spec
     Inv-loop
     μ-loop
-    counted-requires
+    how-many-requires
     loop-holds
-    mul-other
-    element-copy-out-other
+    action-in-requires
     same-mint-requires
     returns
     add-i

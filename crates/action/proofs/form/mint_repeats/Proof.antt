@@ -1,34 +1,31 @@
 -- `action::form::mint_repeats` meets its contract. The loop's invariant: some mint repeats where one does from `i` on.
 -- Assumes nothing.
-use Prim.Native.Nat.{_+_, _-_, _≤_, min}
+use Prim.Native.Nat.{_+_, _-_, _≤_}
 use mathlib.Core.Path.{_≡_, refl, sym, _∙_}
 use native.Mathlib.Numerals.{add-one}
 use native.Mathlib.Omega.{arith}
-use lib.ListN.{length, drop, length-map}
+use lib.ListN.{length, drop}
 use Rattle.action.specs.Creation.{mintRepeats}
-use Rattle.action.specs.Views.{actionsAt}
+use Rattle.action.specs.Views.{viewsOf, actionsIn}
 use Rattle.action.proofs.Scanning.{repeats-found, repeats-passed, repeats-end}
 use Rattle.action.proofs.form.mint_repeats.Statement.{statement}
 use Rattle.action.proofs.form.mint_repeats.Tie as tie
 
 abbrev Inv-loop : tie.InvT-loop
-Inv-loop region parsed n i₀ i =
-    (i ≤ n) × (n ≡ min (parsed .count) 16) × (mintRepeats (drop i (actionsAt region parsed)) ≡ mintRepeats (actionsAt region parsed))
+Inv-loop region actions n i₀ i =
+    (i ≤ n) × (n ≡ length (viewsOf actions)) × (mintRepeats (drop i (actionsIn region actions)) ≡ mintRepeats (actionsIn region actions))
 
 abbrev μ-loop : tie.MeasureT-loop
-μ-loop region parsed n i₀ i = n - i
+μ-loop region actions n i₀ i = n - i
 
-counted-requires : tie.Need-counted-requires Inv-loop μ-loop
-counted-requires c κs = tt
+how-many-requires : tie.Need-how-many-requires Inv-loop μ-loop
+how-many-requires c κs = tt
 
 loop-holds : tie.Need-loop-holds Inv-loop μ-loop
-loop-holds c = (omega arith, c .counted .ensures, refl)
+loop-holds c = (omega arith, c .how-many .ensures, refl)
 
-mul-view : tie.Need-mul-view Inv-loop μ-loop
-mul-view c = omega arith
-
-element-copy-out-view : tie.Need-element-copy-out-view Inv-loop μ-loop
-element-copy-out-view c = omega arith
+action-in-requires : tie.Need-action-in-requires Inv-loop μ-loop
+action-in-requires c κs = tt
 
 add-mint-repeats-at : tie.Need-add-mint-repeats-at Inv-loop μ-loop
 add-mint-repeats-at c = omega arith
@@ -40,12 +37,11 @@ returns : tie.Need-returns Inv-loop μ-loop
 returns c =
     let at-loop = c .before .before .before .before in
     let i = at-loop .loop .i in
-    let start = at-loop .before .before .before in
-    let parsed = start .args .t2 in
-    let long : length (parsed .views) ≡ 16 = simp length-map at (start .good .1 .0 .1 .1 .1 .0 .1 .0 .1) in
+    let start = at-loop .before .before .before .before in
+    let row = start .args .actions .now in
     sym
     (sym (at-loop .loop .inv .2)
-    ∙ repeats-found parsed i _ (omega arith) (omega arith) _ (rw (add-one i) at (sym (c .before .mint-repeats-at .ensures) ∙ c .if1 .taken)))
+    ∙ repeats-found row i _ (c .before .before .action-in .ensures) (omega arith) _ (rw (add-one i) at (sym (c .before .mint-repeats-at .ensures) ∙ c .if1 .taken)))
 
 add-i : tie.Need-add-i Inv-loop μ-loop
 add-i c = omega arith
@@ -57,23 +53,21 @@ loop-again : tie.Need-loop-again Inv-loop μ-loop
 loop-again c =
     let at-loop = c .before .before .before .before in
     let i = at-loop .loop .i in
-    let start = at-loop .before .before .before in
-    let parsed = start .args .t2 in
-    let long : length (parsed .views) ≡ 16 = simp length-map at (start .good .1 .0 .1 .1 .1 .0 .1 .0 .1) in (
+    let start = at-loop .before .before .before .before in
+    let row = start .args .actions .now in (
       omega arith,
       at-loop .loop .inv .1,
       rw (add-one i)
-          (sym (repeats-passed parsed i _ (omega arith) (omega arith) _ (rw (add-one i) at (sym (c .before .mint-repeats-at .ensures) ∙ c .if1 .left)))
+          (sym (repeats-passed row i _ (c .before .before .action-in .ensures) (omega arith) _ (rw (add-one i) at (sym (c .before .mint-repeats-at .ensures) ∙ c .if1 .left)))
           ∙ at-loop .loop .inv .2),
     )
 
 returns-2 : tie.Need-returns-2 Inv-loop μ-loop
 returns-2 c =
     let at-loop = c .before in
-    let start = at-loop .before .before .before in
-    let parsed = start .args .t2 in
-    let long : length (parsed .views) ≡ 16 = simp length-map at (start .good .1 .0 .1 .1 .1 .0 .1 .0 .1) in
-    sym (sym (at-loop .loop .inv .2) ∙ repeats-end _ parsed (at-loop .loop .i) (omega arith))
+    let start = at-loop .before .before .before .before in
+    let row = start .args .actions .now in
+    sym (sym (at-loop .loop .inv .2) ∙ repeats-end _ row (at-loop .loop .i) (omega arith))
 
 pub mint-repeats-spec : {M : Type 1} → statement M
 mint-repeats-spec =
@@ -81,10 +75,9 @@ mint-repeats-spec =
     (tie.spec
     Inv-loop
     μ-loop
-    counted-requires
+    how-many-requires
     loop-holds
-    mul-view
-    element-copy-out-view
+    action-in-requires
     add-mint-repeats-at
     mint-repeats-at-requires
     returns

@@ -1,28 +1,29 @@
--- `action::parse::parse_actions` meets its contract. The loop's invariant is `CutSoFar`; what is left of the region falls.
+-- `action::parse::parse_actions` meets its contract. The loop's invariant is `RowSoFar`; what is left of the region falls.
 -- Assumes nothing.
 use Prim.Native.Nat.{_-_}
 use mathlib.Core.Path.{_≡_, sym, _∙_, ap}
 use native.Mathlib.Omega.{arith}
 use borrow.Author.Needs.{needs}
 use lib.ListN.{length}
-use Rattle.action.proofs.Parsing.{CutSoFar, cut-none, cut-all, cut-too-many, cut-stopped, cut-moves, cut-stays, cut-one}
+use Rattle.answer.specs.Numbers.{answer, accepted}
+use Rattle.action.proofs.Parsing.{RowSoFar, row-none, row-one, row-all, cut-too-many, cut-stopped, cut-moves, cut-stays}
 use Rattle.action.proofs.parse.parse_actions.Statement.{statement}
 use Rattle.action.proofs.parse.parse_actions.Tie as tie
 
 abbrev Inv-loop : tie.InvT-loop
-Inv-loop region views₀ count₀ at₀ views count at = CutSoFar region views count at
+Inv-loop region parsed₀ count₀ at₀ parsed count at = (parsed .answer ≡ answer accepted) × RowSoFar region (parsed .list) count at
 
 abbrev μ-loop : tie.MeasureT-loop
-μ-loop region views₀ count₀ at₀ views count at = length region - at
-
-zero-requires : tie.Need-zero-requires Inv-loop μ-loop
-zero-requires c κs = tt
-
-loop-holds : tie.Need-loop-holds Inv-loop μ-loop
-loop-holds c = rw (c .zero .ensures) (cut-none _)
+μ-loop region parsed₀ count₀ at₀ parsed count at = length region - at
 
 of-requires : tie.Need-of-requires Inv-loop μ-loop
 of-requires c κs = tt
+
+loop-holds : tie.Need-loop-holds Inv-loop μ-loop
+loop-holds c = (c .of .ensures, row-none _)
+
+of-requires-2 : tie.Need-of-requires-2 Inv-loop μ-loop
+of-requires-2 c κs = tt
 
 refused-requires : tie.Need-refused-requires Inv-loop μ-loop
 refused-requires c κs = tt
@@ -30,7 +31,7 @@ refused-requires c κs = tt
 returns : tie.Need-returns Inv-loop μ-loop
 returns c =
     let at-loop = c .before .before .before .before in
-    c .refused .ensures ∙ rw (c .before .of .ensures, cut-too-many (at-loop .loop .inv) (omega arith) (omega arith))
+    c .refused .ensures ∙ rw (c .before .of2 .ensures, cut-too-many (at-loop .loop .inv .1 .so-far) (omega arith) (omega arith))
 
 read-header-requires : tie.Need-read-header-requires Inv-loop μ-loop
 read-header-requires c κs = tt
@@ -52,46 +53,85 @@ returns-2 c =
     let told = c .before .before .enum-told .given in
     let at-read = c .before .before .before .before in
     let at-loop = at-read .before .before .before in
-    let stopped = cut-stopped (at-loop .loop .inv) (omega arith) (omega arith) (told .0 .0) (sym (at-read .read-header .ensures) ∙ told .1) in
+    let stopped = cut-stopped (at-loop .loop .inv .1 .so-far) (omega arith) (omega arith) (told .0 .0) (sym (at-read .read-header .ensures) ∙ told .1) in
     c .refused2 .ensures ∙ rw (c .before .header-answer .ensures, told .1, stopped)
 
-mul-views : tie.Need-mul-views Inv-loop μ-loop
-mul-views c = search needs
+cast-parsed : tie.Need-cast-parsed Inv-loop μ-loop
+cast-parsed c = omega arith
 
-array-set-from-views : tie.Need-array-set-from-views Inv-loop μ-loop
-array-set-from-views c = search needs
+mul-parsed : tie.Need-mul-parsed Inv-loop μ-loop
+mul-parsed c = omega arith
+
+mul-parsed-2 : tie.Need-mul-parsed-2 Inv-loop μ-loop
+mul-parsed-2 c = omega arith
+
+element-write-parsed : tie.Need-element-write-parsed Inv-loop μ-loop
+element-write-parsed c = omega arith
+
+mul-parsed-3 : tie.Need-mul-parsed-3 Inv-loop μ-loop
+mul-parsed-3 c = omega arith
+
+add-parsed : tie.Need-add-parsed Inv-loop μ-loop
+add-parsed c = omega arith
+
+mul-parsed-4 : tie.Need-mul-parsed-4 Inv-loop μ-loop
+mul-parsed-4 c = omega arith
+
+element-write-parsed-2 : tie.Need-element-write-parsed-2 Inv-loop μ-loop
+element-write-parsed-2 c = omega arith
+
+mul-parsed-5 : tie.Need-mul-parsed-5 Inv-loop μ-loop
+mul-parsed-5 c = omega arith
+
+add-parsed-2 : tie.Need-add-parsed-2 Inv-loop μ-loop
+add-parsed-2 c = omega arith
+
+mul-parsed-6 : tie.Need-mul-parsed-6 Inv-loop μ-loop
+mul-parsed-6 c = omega arith
+
+element-write-parsed-3 : tie.Need-element-write-parsed-3 Inv-loop μ-loop
+element-write-parsed-3 c = omega arith
+
+mul-parsed-7 : tie.Need-mul-parsed-7 Inv-loop μ-loop
+mul-parsed-7 c = omega arith
+
+add-parsed-3 : tie.Need-add-parsed-3 Inv-loop μ-loop
+add-parsed-3 c = omega arith
+
+mul-parsed-8 : tie.Need-mul-parsed-8 Inv-loop μ-loop
+mul-parsed-8 c = omega arith
+
+element-write-parsed-4 : tie.Need-element-write-parsed-4 Inv-loop μ-loop
+element-write-parsed-4 c = omega arith
 
 add-count : tie.Need-add-count Inv-loop μ-loop
-add-count c = search needs
+add-count c = omega arith
 
 add-at : tie.Need-add-at Inv-loop μ-loop
 add-at c =
-    let read = c .before .before .read .given in
-    let at-read = c .before .before .before .before in
+    let read = c .before .before .before .read .given in
+    let at-read = c .before .before .before .before .before in
     let at-loop = at-read .before .before .before in
-    omega (arith, cut-stays (at-loop .loop .inv) (omega arith) (omega arith) (read .0 .0) (sym (at-read .read-header .ensures) ∙ read .1))
+    omega (arith, cut-stays (at-loop .loop .inv .1 .so-far) (omega arith) (omega arith) (read .0 .0) (sym (at-read .read-header .ensures) ∙ read .1))
 
 loop-less : tie.Need-loop-less Inv-loop μ-loop
 loop-less c =
-    let read = c .before .before .read .given in
-    let at-read = c .before .before .before .before in
+    let read = c .before .before .before .read .given in
+    let at-read = c .before .before .before .before .before in
     let at-loop = at-read .before .before .before in
-    omega (arith, cut-moves (at-loop .loop .inv) (omega arith) (omega arith) (read .0 .0) (sym (at-read .read-header .ensures) ∙ read .1))
+    omega (arith, cut-moves (at-loop .loop .inv .1 .so-far) (omega arith) (omega arith) (read .0 .0) (sym (at-read .read-header .ensures) ∙ read .1))
 
 loop-again : tie.Need-loop-again Inv-loop μ-loop
 loop-again c =
-    let read = c .before .before .read .given in
-    let at-read = c .before .before .before .before in
+    let read = c .before .before .before .read .given in
+    let at-read = c .before .before .before .before .before in
     let at-loop = at-read .before .before .before in
-    cut-one (at-loop .loop .inv) (omega arith) (omega arith) (read .0 .0) (sym (at-read .read-header .ensures) ∙ read .1)
-
-of-requires-2 : tie.Need-of-requires-2 Inv-loop μ-loop
-of-requires-2 c κs = tt
+    (at-loop .loop .inv .0, row-one (at-loop .loop .inv .1) (omega arith) (omega arith) (read .0 .0) (sym (at-read .read-header .ensures) ∙ read .1))
 
 returns-3 : tie.Need-returns-3 Inv-loop μ-loop
 returns-3 c =
-    let at-loop = c .before .before in
-    rw (c .of2 .ensures) (sym (cut-all (at-loop .loop .inv) (omega arith)))
+    let at-loop = c .before in
+    rw (at-loop .loop .inv .0) (sym (row-all (at-loop .loop .inv .1) (omega arith)))
 
 pub parse-actions-spec : {M : Type 1} → statement M
 parse-actions-spec =
@@ -99,9 +139,9 @@ parse-actions-spec =
     (tie.spec
     Inv-loop
     μ-loop
-    zero-requires
-    loop-holds
     of-requires
+    loop-holds
+    of-requires-2
     refused-requires
     returns
     read-header-requires
@@ -110,11 +150,24 @@ parse-actions-spec =
     header-answer-requires
     refused-requires-2
     returns-2
-    mul-views
-    array-set-from-views
+    cast-parsed
+    mul-parsed
+    mul-parsed-2
+    element-write-parsed
+    mul-parsed-3
+    add-parsed
+    mul-parsed-4
+    element-write-parsed-2
+    mul-parsed-5
+    add-parsed-2
+    mul-parsed-6
+    element-write-parsed-3
+    mul-parsed-7
+    add-parsed-3
+    mul-parsed-8
+    element-write-parsed-4
     add-count
     add-at
     loop-less
     loop-again
-    of-requires-2
     returns-3)
