@@ -1,4 +1,5 @@
 pub mod Format
+pub mod Indexes
 pub mod Lists
 pub mod NamedValues
 pub mod Parts

@@ -5,8 +5,9 @@ use mathlib.Core.Path.{_≡_, refl, sym, ap, _∙_}
 use mathlib.Core.List.{List, [], _∷_, _++_}
 use mathlib.Core.Option.{Option, none, some}
 use native.Mathlib.Nat.{sub-zero}
+use native.Mathlib.Numerals.{add-one}
 use native.Mathlib.Omega.{arith}
-use lib.ListN.{length, getD, take, drop, set, length-drop}
+use lib.ListN.{length, getD, take, drop, set, length-drop, length-set}
 use lib.Seq.{drop-drop, getD-drop, take-at, drop-at, sets}
 use Rattle.answer.specs.Numbers.{answer, accepted}
 use Rattle.number.specs.Number.{number, numberAt}
@@ -148,7 +149,7 @@ unfolding placed
 length-placed at [] = refl
 length-placed at (i ∷ is) = ap suc (length-placed (at + length (encodeOne i)) is)
 
-pub reading-starts : (bytes : List ℕ) → 0 < length bytes → getD bytes 0 0 ≤ mostInstructions
+reading-starts : (bytes : List ℕ) → 0 < length bytes → getD bytes 0 0 ≤ mostInstructions
     → readingOn (getD bytes 0 0) bytes (getD bytes 0 0) 1 (entriesOf [] .list) 0 ≡ reading bytes
 unfolding readingOn outcome entriesOf
 reading-starts [] hb h = absurd (omega arith)
@@ -164,7 +165,7 @@ reading-starts (b ∷ bytes) hb h = go (decodeEach b bytes) refl ∙ sym (readin
         rw (sub-zero mostInstructions, filled mostInstructions zeroEntry (placed 1 (d .value)) room, many)
 
 module _ (left : ℕ) (bytes : List ℕ) (count at : ℕ) (list : List Entry) (i : ℕ) where
-  pub reading-stops : headOf at (decodeOne (drop at bytes)) ≡ Short → readingOn (suc left) bytes count at list i ≡ refused
+  reading-stops : headOf at (decodeOne (drop at bytes)) ≡ Short → readingOn (suc left) bytes count at list i ≡ refused
   unfolding readingOn decodeEach headOf outcome
   reading-stops h = go (decodeOne (drop at bytes)) refl h
     where
@@ -181,7 +182,7 @@ module _ (left : ℕ) (bytes : List ℕ) (count at : ℕ) (list : List Entry) (i
   one-more d none = refl
   one-more d (some more) = refl
 
-  pub reading-goes-on : (entry : Entry) (next : ℕ) → headOf at (decodeOne (drop at bytes)) ≡ At entry next
+  reading-goes-on : (entry : Entry) (next : ℕ) → headOf at (decodeOne (drop at bytes)) ≡ At entry next
       → readingOn (suc left) bytes count at list i ≡ readingOn left bytes count next (set list i entry) (suc i)
   unfolding readingOn decodeEach headOf
   reading-goes-on entry next h = go (decodeOne (drop at bytes)) refl h
@@ -196,7 +197,7 @@ module _ (left : ℕ) (bytes : List ℕ) (count at : ℕ) (list : List Entry) (i
           let there : at + size ≡ next = cc in
           rw (e, rest, ← here, ← there) (one-more d (decodeEach left (drop (at + size) bytes)))
 
-pub reading-inside : (bytes : List ℕ) (at : ℕ) (entry : Entry) (next : ℕ) → at ≤ length bytes → headOf at (decodeOne (drop at bytes)) ≡ At entry next
+reading-inside : (bytes : List ℕ) (at : ℕ) (entry : Entry) (next : ℕ) → at ≤ length bytes → headOf at (decodeOne (drop at bytes)) ≡ At entry next
     → next ≤ length bytes
 unfolding headOf
 reading-inside bytes at entry next inside h = go (decodeOne (drop at bytes)) refl h
@@ -207,9 +208,47 @@ reading-inside bytes at entry next inside h = go (decodeOne (drop at bytes)) ref
         let there : at + length (encodeOne (d .value)) ≡ next = cc in
         omega (arith, one-size (drop at bytes) d e, length-drop at bytes)
 
-pub reading-ends : (bytes : List ℕ) (count at : ℕ) (list : List Entry) (i : ℕ) → at ≤ length bytes
+reading-ends : (bytes : List ℕ) (count at : ℕ) (list : List Entry) (i : ℕ) → at ≤ length bytes
     → readingOn 0 bytes count at list i ≡ record { answer = answer accepted; entries = record { list = list; count = count }; consumed = at }
 unfolding readingOn decodeEach outcome placed
 reading-ends bytes count at list i inside =
     let all : length bytes - (length bytes - at) ≡ at = omega arith in
     rw (length-drop, all)
+
+-- how far a list is read: the entries of the first `i` instructions are listed, and reading on from `at` gives what reading gives
+pub record ReadSoFar (bytes : List ℕ) (count : ℕ) (list : List Entry) (at i : ℕ) : Type 0 where
+  pub most : i ≤ count
+  pub few : count ≤ mostInstructions
+  pub inside : at ≤ length bytes
+  pub long : length list ≡ mostInstructions
+  pub same : readingOn (count - i) bytes count at list i ≡ reading bytes
+
+pub read-none : (bytes : List ℕ) → 0 < length bytes → getD bytes 0 0 ≤ mostInstructions
+    → ReadSoFar bytes (getD bytes 0 0) (entriesOf [] .list) 1 0
+unfolding entriesOf mostInstructions
+read-none bytes some-byte few =
+    record { most = omega arith; few = few; inside = some-byte; long = refl; same = rw sub-zero (reading-starts bytes some-byte few) }
+
+module _ {bytes : List ℕ} {count : ℕ} {list : List Entry} {at i : ℕ} (far : ReadSoFar bytes count list at i) where
+  pub read-all : count ≤ i → reading bytes ≡ record { answer = answer accepted; entries = record { list = list; count = count }; consumed = at }
+  read-all last =
+      let none-left : count - i ≡ 0 = omega arith in
+      sym (rw none-left at (far .same)) ∙ reading-ends bytes count at list i (far .inside)
+
+  module _ (more : i < count) where
+    one-left : readingOn (suc (count - suc i)) bytes count at list i ≡ reading bytes
+    one-left = let left : count - i ≡ suc (count - suc i) = omega arith in rw left at (far .same)
+
+    pub read-short : headOf at (decodeOne (drop at bytes)) ≡ Short → reading bytes ≡ refused
+    read-short h = sym one-left ∙ reading-stops (count - suc i) bytes count at list i h
+
+    pub read-one : (entry : Entry) (next : ℕ) → headOf at (decodeOne (drop at bytes)) ≡ At entry next
+        → ReadSoFar bytes count (set list i entry) next (i + 1)
+    read-one entry next h =
+        record {
+          most = omega arith;
+          few = far .few;
+          inside = reading-inside bytes at entry next (far .inside) h;
+          long = length-set list i entry ∙ far .long;
+          same = rw add-one (sym (reading-goes-on (count - suc i) bytes count at list i entry next h) ∙ one-left);
+        }

@@ -14,6 +14,7 @@ use Rattle.compact.specs.declared.Range.{Range}
 use Rattle.compact.specs.declared.Entry.{Entry}
 use Rattle.compact.specs.declared.Entries.{Entries}
 use Rattle.compact.specs.declared.Parsed.{Parsed}
+use Rattle.compact.specs.declared.Programs.{Programs}
 use Rattle.compact.specs.declared.Written.{Written}
 use Rattle.compact.specs.declared.Head.{Head}
 use Rattle.compact.specs.declared.Head.the-variants.{At, Short}
@@ -165,6 +166,15 @@ reading bytes =
 -- the entries that a list holds
 unfoldable pub entriesIn : Entries → List Entry
 entriesIn l = take (l .count) (l .list)
+
+-- the program indexes of the entries that a list holds
+unfoldable pub programsIn : Entries → List ℕ
+programsIn entries = map (λ (e : Entry). e .program) (entriesIn entries)
+
+-- what a judged call needs of a reading: the answer, and the program index of each entry, those of zeros past the last too
+unfoldable pub programsOf : Parsed → Programs
+programsOf p =
+    record { answer = p .answer; list = map (λ (e : Entry). e .program) (p .entries .list); count = p .entries .count }
 
 -- the instructions that they mean over a source
 unfoldable pub listOf : List ℕ → Entries → List Instruction

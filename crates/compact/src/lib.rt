@@ -4,11 +4,11 @@ ghost use mathlib.Core.Path.{_≡_};
 ghost use mathlib.Core.List.{[]};
 ghost use mathlib.Core.Bool.{true};
 ghost use Prim.Native.Nat.{_+_, _≤_};
-ghost use lib.ListN.{length, drop};
+ghost use lib.ListN.{length, take, drop};
 ghost use lib.Seq.{sets};
 ghost use Rattle.answer.specs.Numbers.{answer};
 ghost use Rattle.number.specs.Number.{bytesOf};
-ghost use Rattle.compact.specs.Compact.{mostInstructions, decodeOne, encodeOne, encodeEach, encode, part, meant, entriesOf, listOf, reading, refused, within, encodableOne, encodableEach, entriesIn, writing, outputAfter, headOf, sizeIf};
+ghost use Rattle.compact.specs.Compact.{mostInstructions, decodeOne, encodeOne, encodeEach, encode, part, meant, entriesOf, listOf, reading, refused, programsOf, within, encodableOne, encodableEach, entriesIn, writing, outputAfter, headOf, sizeIf};
 use answer::ACCEPTED;
 use answer::Answer;
 use answer::INVALID_INSTRUCTION_DATA;
@@ -42,6 +42,13 @@ pub struct Parsed {
     pub answer: Answer,
     pub entries: Entries,
     pub consumed: usize,
+}
+
+// The program index of each instruction; zeros past the count, and on a refusal everywhere.
+pub struct Programs {
+    pub answer: Answer,
+    pub list: [usize; 16],
+    pub count: usize,
 }
 
 pub struct Written {
@@ -154,6 +161,57 @@ pub fn parse_compact_instructions(bytes: &[u8]) -> Parsed
         entries,
         consumed: at,
     }
+}
+
+fn no_programs() -> Programs
+    ensures { λ r. ⌜ r ≡ programsOf refused ⌝ }
+{
+    let answer = Answer::of(INVALID_INSTRUCTION_DATA);
+    Programs {
+        answer,
+        list: [0usize; 16],
+        count: 0,
+    }
+}
+
+// What a judged call needs of the list at the front of `bytes`: the entries are not kept.
+pub fn parse_programs(bytes: &[u8]) -> Programs
+    ensures { λ r. ⌜ r ≡ programsOf (reading (now (bytes .entry))) ⌝ }
+{
+    if bytes.len() < 1 {
+        return no_programs();
+    }
+    let count = bytes[0] as usize;
+    if MAX_COMPACT_INSTRUCTIONS < count {
+        return no_programs();
+    }
+    let mut list = [0usize; 16];
+    let mut at = 1;
+    let mut i = 0;
+    while i < count {
+        let Head::At(entry, next) = head_at(bytes, at) else {
+            return no_programs();
+        };
+        list[i] = entry.program as usize;
+        at = next;
+        i += 1;
+    }
+    let answer = Answer::of(ACCEPTED);
+    Programs {
+        answer,
+        list,
+        count,
+    }
+}
+
+// The indexes of a row that are counted.
+pub fn programs_in(list: &[usize], count: usize) -> &[usize]
+    ensures { λ r. ⌜ now r ≡ take count (now (list .entry)) ⌝ }
+{
+    if list.len() < count {
+        return list;
+    }
+    &list[..count]
 }
 
 // Whether a range lies within a source. No sum is made: a range may name any place.

@@ -6,13 +6,14 @@ use mathlib.Core.List.{List, [], _∷_, _++_, map}
 use Prim.Native.Nat.{ℕ, zero, suc, _+_, _<_, _≤_, min}
 use native.Mathlib.Numerals.{add-one}
 use native.Mathlib.Omega.{arith}
-use borrow.Author.Tests.{eq-eqb, ne-eqb, eqb-true, lt-ltb, le-ltb}
+use borrow.Author.Tests.{eq-eqb, ne-eqb, eqb-true}
 use lib.Dec.{eqb, ltb}
 use lib.ListN.{length, getD, take, drop, set, length-set, drop-of-length-le, length-take, length-map, List·getD-map}
 use lib.Seq.{drop-cons, getD-take, take-suc-set}
-use Rattle.key.specs.Key.{sameBytes, sameKey, isAmong, keysIn, withKey, withOne}
+use Rattle.key.specs.Key.{sameBytes, sameKey, isAmong, keysIn, keyFrom, withKey, withOne}
 use Rattle.key.specs.declared.Key.{Key}
 use Rattle.key.specs.declared.Keys.{Keys}
+use Rattle.key.proofs.Filling.{key-of-its-length, with-repeat, with-new}
 
 pub same-bytes-step : (a b : List ℕ) (i : ℕ) → i < length a → i < length b
     → sameBytes (drop i a) (drop i b) ≡ (eqb (getD a i 0) (getD b i 0) && sameBytes (drop (suc i) a) (drop (suc i) b))
@@ -73,24 +74,6 @@ pub among-end : (key : List ℕ) (l : Keys) (i : ℕ) → min (l .count) (length
 unfolding isAmong
 among-end key l i h = ap (isAmong key) (keys-end l i h)
 
-module _ (l : Keys) (key : List ℕ) where
-  pub with-full : 16 ≤ l .count → withKey l key ≡ l
-  unfolding withKey
-  with-full h = rw (le-ltb _ _ h)
-
-  pub with-no-key : (length key ≡ 32 → ⊥) → withKey l key ≡ l
-  unfolding withKey
-  with-no-key h = rw (ne-eqb _ _ h, and-false)
-
-  pub with-repeat : isAmong key (keysIn l) ≡ true → withKey l key ≡ l
-  unfolding withKey
-  with-repeat h = rw (h, and-false)
-
-  pub with-new : (k : Key) → k .bytes ≡ key → l .count < 16 → length key ≡ 32 → isAmong key (keysIn l) ≡ false
-      → withKey l key ≡ record { list = set (l .list) (l .count) k; count = l .count + 1 }
-  unfolding withKey
-  with-new k e hc hk ha = rw (lt-ltb _ _ hc, eq-eqb _ _ hk, ha, ← e)
-
 -- ---- the same key is the same bytes
 
 pub same-bytes-eq : (a b : List ℕ) → sameBytes a b ≡ true → a ≡ b
@@ -141,12 +124,12 @@ map-set (x ∷ l) (suc i) k = ap (λ (r : List (List ℕ)). x .bytes ∷ r) (map
 
 -- a list that has room holds what it held and the key
 module _ (l : Keys) (key : List ℕ) (long : length (l .list) ≡ 16) (room : l .count < 16) (whole : length key ≡ 32) where
-  held : keysIn (record { list = set (l .list) (l .count) (record { bytes = key }); count = l .count + 1 }) ≡ keysIn l ++ (key ∷ [])
+  held : keysIn (record { list = set (l .list) (l .count) (keyFrom key); count = l .count + 1 }) ≡ keysIn l ++ (key ∷ [])
   unfolding keysIn
   held =
       let all = map (λ (k : Key). k .bytes) (l .list) in
       let inside : l .count < length all = rw (length-map (l .list) (λ (k : Key). k .bytes)) (omega arith) in
-      rw (map-set (l .list) (l .count) (record { bytes = key }), add-one (l .count)) (take-suc-set all (l .count) key inside)
+      rw (key-of-its-length key whole, map-set (l .list) (l .count) (record { bytes = key }), add-one (l .count)) (take-suc-set all (l .count) key inside)
 
   pub with-key-in : keysIn (withKey l key) ≡ withOne (keysIn l) key
   unfolding withOne
@@ -154,7 +137,7 @@ module _ (l : Keys) (key : List ℕ) (long : length (l .list) ≡ 16) (room : l 
     where
       go : (t : Bool) → isAmong key (keysIn l) ≡ t → keysIn (withKey l key) ≡ cond t (keysIn l) (keysIn l ++ (key ∷ []))
       go true e = ap keysIn (with-repeat l key e)
-      go false e = ap keysIn (with-new l key (record { bytes = key }) refl room whole e) ∙ held
+      go false e = ap keysIn (with-new l key room whole e) ∙ held
 
 -- a list keeps its sixteen places, and its count grows by one at the most
 pub record Next (l m : Keys) : Type 0 where

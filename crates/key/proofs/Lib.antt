@@ -1,2 +1,3 @@
+pub mod Filling
 pub mod Laws
 pub mod Words

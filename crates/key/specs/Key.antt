@@ -44,6 +44,10 @@ keysIn l = take (l .count) (map (λ (k : Key). k .bytes) (l .list))
 unfoldable pub zeroKey : Key
 zeroKey = record { bytes = replicate 32 0 }
 
+-- the key of a part that has its length, and the key of zeros for any other
+unfoldable pub keyFrom : List ℕ → Key
+keyFrom part = cond (eqb (length part) keyLength) (record { bytes = part }) zeroKey
+
 -- the list that holds some keys, and zeros past the last
 unfoldable pub keysOf : List (List ℕ) → Keys
 keysOf ks = record { list = map (λ (k : List ℕ). record { bytes = k }) ks ++ replicate (mostKeys - length ks) zeroKey; count = length ks }

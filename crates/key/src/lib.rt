@@ -1,8 +1,7 @@
 // Keys of 32 bytes. Every comparison of keys goes through `same_key`.
 ghost use mathlib.Core.Path.{_≡_};
 ghost use mathlib.Core.List.{[]};
-ghost use lib.ListN.{length};
-ghost use Rattle.key.specs.Key.{sameBytes, sameKey, isAmong, keysIn, keysOf, withKey};
+ghost use Rattle.key.specs.Key.{sameBytes, sameKey, isAmong, keysIn, keysOf, keyFrom, withKey};
 
 pub const KEY_LENGTH: usize = 32;
 
@@ -66,11 +65,13 @@ pub fn same_key(a: &[u8], b: &[u8]) -> bool
     number::read_u64(a, 24) == number::read_u64(b, 24)
 }
 
-// The key of a part that has its length.
-fn key_of(part: &[u8]) -> Key
-    requires { ⌜ length (now part) ≡ 32 ⌝ }
-    ensures { λ r. ⌜ r .bytes ≡ now (part .entry) ⌝ }
+// The key of a part that has its length, and zeros for any other.
+pub fn key_of(part: &[u8]) -> Key
+    ensures { λ r. ⌜ r ≡ keyFrom (now (part .entry)) ⌝ }
 {
+    if part.len() != KEY_LENGTH {
+        return Key { bytes: [0u8; 32] };
+    }
     let mut bytes = [0u8; 32];
     let mut i = 0;
     while i < KEY_LENGTH {
@@ -81,7 +82,7 @@ fn key_of(part: &[u8]) -> Key
 }
 
 impl Key {
-    fn is(self, key: &[u8]) -> bool
+    pub fn is(self, key: &[u8]) -> bool
         ensures { λ r. ⌜ r ≡ sameKey (self .bytes) (now (key .entry)) ⌝ }
     {
         let bytes = self.bytes;

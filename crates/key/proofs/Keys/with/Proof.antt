@@ -2,7 +2,7 @@
 -- Assumes nothing.
 use mathlib.Core.Path.{sym, _∙_}
 use native.Mathlib.Omega.{arith}
-use Rattle.key.proofs.Laws.{with-full, with-no-key, with-repeat, with-new}
+use Rattle.key.proofs.Filling.{with-full, with-no-key, with-repeat, with-new}
 use borrow.Author.Needs.{needs}
 use Rattle.key.proofs.Keys.with.Statement.{statement}
 use Rattle.key.proofs.Keys.with.Tie as tie
@@ -34,9 +34,8 @@ add-more c = search needs
 returns-4 : tie.Need-returns-4
 returns-4 c =
     let start = c .before .before .before .before .before .before in
-    sym
-    (with-new (start .args .self) _ (c .key-of .result) (c .key-of .ensures) (omega arith) (omega arith)
-    (sym (c .before .before .holds .ensures) ∙ c .before .if3 .left))
+    rw (c .key-of .ensures)
+    (sym (with-new (start .args .self) _ (omega arith) (omega arith) (sym (c .before .before .holds .ensures) ∙ c .before .if3 .left)))
 
 pub with-spec : {M : Type 1} → statement M
 with-spec =
