@@ -3,17 +3,16 @@
 use mathlib.Core.Path.{_≡_}
 use mathlib.Core.Bool.{true, false, _||_, and-true, and-false, and-eq-true-iff}
 use mathlib.Core.List.{List, [], _∷_, _++_}
-use Prim.Native.Nat.{ℕ, suc, _+_, _-_, _^_, _<_, _≤_}
+use Prim.Native.Nat.{ℕ, suc, _+_, _-_, _/_, _^_, _<_, _≤_}
 use native.Mathlib.Omega.{arith}
 use borrow.Author.Tests.{le-leb, lt-leb, leb-true}
 use lib.ListN.{length, getD, drop, drop-of-length-le}
 use Rattle.key.specs.Key.{sameKey}
 use Rattle.number.specs.Number.{cappedSum, highest}
 use Rattle.account.specs.declared.RecordView.{RecordView}
-use Rattle.account.specs.declared.Table.{Table}
 use Rattle.account.specs.Table.{Record}
 use Rattle.account.specs.Tokens.{splToken, token2022, isTokenAccount, mintOf, holderOf, amountOf, isCounted, share, holdings, balance}
-use Rattle.account.specs.Views.{recordAt, recordsAt}
+use Rattle.account.specs.Views.{recordAt, viewsOf, recordsIn}
 use Rattle.account.proofs.Views.{records-step}
 
 module _ (r : Record) where
@@ -76,10 +75,10 @@ module _ (vault mint : List ℕ) where
   balance-cons r l = omega arith
 
   -- the balance from the record before a place on
-  pub balance-before : (s : List ℕ) (t : Table) (i : ℕ) (d : RecordView) → 0 < i → i ≤ t .count → i ≤ length (t .views)
-      → balance vault mint (drop (i - 1) (recordsAt s t))
-      ≡ cappedSum (balance vault mint (drop i (recordsAt s t))) (share vault mint (recordAt s (getD (t .views) (i - 1) d)))
-  balance-before s t i d some hc hv =
+  pub balance-before : (s row : List ℕ) (i : ℕ) (d : RecordView) → 0 < i → i ≤ length row / 2
+      → balance vault mint (drop (i - 1) (recordsIn s row))
+      ≡ cappedSum (balance vault mint (drop i (recordsIn s row))) (share vault mint (recordAt s (getD (viewsOf row) (i - 1) d)))
+  balance-before s row i d some inside =
       let place : suc (i - 1) ≡ i = omega arith in
-      let step = rw place at (records-step s t (i - 1) d (omega arith) (omega arith)) in
+      let step = rw place at (records-step s row (i - 1) d (omega arith)) in
       rw step (balance-cons _ _)

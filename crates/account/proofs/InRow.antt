@@ -1,18 +1,12 @@
 -- Laws of views in a row of numbers, two numbers for each view.
 -- Assumes nothing.
 use mathlib.Core.Path.{_≡_, refl, ap, ap₂, sym, _∙_}
-use mathlib.Core.List.{List, [], _∷_}
+use mathlib.Core.List.{List, [], _∷_, _++_}
 use Prim.Native.Nat.{ℕ, zero, suc, _+_, _*_, _/_, _<_, _≤_}
 use native.Mathlib.Omega.{arith}
-use lib.ListN.{length, getD, set, replicate}
-use Rattle.answer.specs.Numbers.{answer, accepted}
-use Rattle.number.specs.Number.{numberAt}
+use lib.ListN.{length, getD, set}
 use Rattle.account.specs.declared.RecordView.{RecordView}
-use Rattle.account.specs.declared.Table.{Table}
-use Rattle.account.specs.declared.parse.RecordRead.the-variants.{View}
-use Rattle.account.specs.Table.{cutTable}
-use Rattle.account.specs.Views.{viewsOf, rowOf, placesOf, tableIn, tableOf, readAt, recordsAt, viewsIn, zeroView}
-use Rattle.account.proofs.Parsing.{CutSoFar, cut-none, cut-all, cut-one}
+use Rattle.account.specs.Views.{viewsOf, rowOf}
 
 two-more : (i : ℕ) → 2 * suc i ≡ suc (suc (2 * i))
 two-more i = omega arith
@@ -53,39 +47,16 @@ unfolding viewsOf rowOf
 views-of-row [] = refl
 views-of-row (v ∷ vs) = ap (λ (l : List RecordView). v ∷ l) (views-of-row vs)
 
-pub row-set : (vs : List RecordView) (i : ℕ) (v : RecordView) → rowOf (set vs i v) ≡ set (set (rowOf vs) (2 * i) (v .at)) (2 * i + 1) (v .len)
+pub length-row : (vs : List RecordView) → length (rowOf vs) ≡ 2 * length vs
 unfolding rowOf
-row-set [] i v = refl
-row-set (w ∷ vs) zero v = refl
-row-set (w ∷ vs) (suc i) v =
-    ap (λ (l : List ℕ). w .at ∷ w .len ∷ l) (row-set vs i v)
-    ∙ ap₂ (λ (j k : ℕ). set (set (w .at ∷ w .len ∷ rowOf vs) j (v .at)) k (v .len)) (sym (two-more i)) (sym (two-more-and-one i))
+length-row [] = refl
+length-row (v ∷ vs) = ap (λ (n : ℕ). suc (suc n)) (length-row vs) ∙ sym (two-more (length vs))
 
--- the records of a table are those of its row
-pub records-of-row : (s : List ℕ) (t : Table) → recordsAt s (tableIn (placesOf t .list) (placesOf t .count)) ≡ recordsAt s t
-unfolding recordsAt viewsIn placesOf
-records-of-row s t = rw (views-of-row (t .views))
-
--- how far a table is cut into a row
-pub record RowSoFar (s : List ℕ) (counted : ℕ) (list : List ℕ) (count at : ℕ) : Type 0 where
-  pub views : List RecordView
-  pub so-far : CutSoFar s counted views count at
-  pub row : list ≡ rowOf views
-
-pub row-none : (s : List ℕ) (counted : ℕ) → 2 ≤ length s → counted ≡ numberAt 2 s 0 → counted ≤ 64 → RowSoFar s counted (replicate 128 0) 0 2
+-- a view written behind those of a row
+pub row-next : (vs : List RecordView) (v : RecordView) (rest : List ℕ)
+    → set (set (rowOf vs ++ (0 ∷ 0 ∷ rest)) (2 * length vs) (v .at)) (2 * length vs + 1) (v .len) ≡ rowOf (vs ++ (v ∷ [])) ++ rest
 unfolding rowOf
-row-none s counted long e few = record { views = replicate 64 zeroView; so-far = cut-none s counted long e few; row = refl }
-
-module _ {s : List ℕ} {counted : ℕ} {list : List ℕ} {count at : ℕ} (far : RowSoFar s counted list count at) where
-  pub row-all : counted ≤ count → length s ≤ at → placesOf (tableOf (cutTable s)) ≡ record { answer = answer accepted; list = list; count = count }
-  unfolding placesOf
-  row-all last end = rw (cut-all (far .so-far) last end, far .row)
-
-  pub row-one : count < counted → (v : RecordView) → readAt s at ≡ View v
-      → RowSoFar s counted (set (set list (2 * count) (v .at)) (2 * count + 1) (v .len)) (count + 1) (v .at + 68 + v .len)
-  row-one more v h =
-      record {
-        views = set (far .views) count v;
-        so-far = cut-one (far .so-far) more v h;
-        row = rw (row-set (far .views) count v, far .row);
-      }
+row-next [] v rest = refl
+row-next (w ∷ vs) v rest =
+    ap₂ (λ (j k : ℕ). set (set (w .at ∷ w .len ∷ (rowOf vs ++ (0 ∷ 0 ∷ rest))) j (v .at)) k (v .len)) (two-more (length vs)) (two-more-and-one (length vs))
+    ∙ ap (λ (l : List ℕ). w .at ∷ w .len ∷ l) (row-next vs v rest)

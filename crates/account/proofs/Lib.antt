@@ -1,11 +1,11 @@
 pub mod Refusing
 pub mod Parts
 pub mod Cutting
+pub mod InRow
 pub mod Parsing
 pub mod Given
 pub mod Views
 pub mod Gluing
 pub mod Balances
-pub mod InRow
 pub mod Lookups
 pub mod Theorems

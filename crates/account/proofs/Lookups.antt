@@ -3,10 +3,10 @@
 use mathlib.Core.Path.{_≡_, ap}
 use mathlib.Core.Bool.{Bool, true, false, not, _&&_, and-false}
 use mathlib.Core.List.{List, [], _∷_, map}
-use Prim.Native.Nat.{ℕ, zero, suc, _+_, _<_, _≤_}
+use Prim.Native.Nat.{ℕ, zero, suc, _+_, _*_, _/_, _<_, _≤_}
 use native.Mathlib.Omega.{arith}
 use borrow.Author.Tests.{leb-true, lt-ltb, le-ltb}
-use lib.ListN.{length, getD, drop, length-map, drop-of-length-le, List·getD-eq-default}
+use lib.ListN.{length, getD, take, drop, length-map, drop-of-length-le, List·getD-eq-default}
 use lib.Seq.{drop-cons}
 use lib.Dec.{ltb}
 use Rattle.answer.specs.Numbers.{accepts, refuseIf, invalidInstructionData}
@@ -14,11 +14,11 @@ use Rattle.compact.specs.declared.Range.{Range}
 use Rattle.compact.specs.declared.Entry.{Entry}
 use Rattle.compact.specs.Compact.{within, part}
 use Rattle.account.specs.declared.RecordView.{RecordView}
-use Rattle.account.specs.declared.Table.{Table}
+use Rattle.account.specs.declared.Places.{Places}
 use Rattle.account.specs.Table.{Record, cutTable}
 use Rattle.account.specs.Indexes.{allBelow, resolvable, resolving, keyAmong, keyAt}
-use Rattle.account.specs.Views.{recordAt, recordsAt, tableOf}
-use Rattle.account.proofs.Views.{records-step, records-of-table, table-malformed, table-sound, table-count}
+use Rattle.account.specs.Views.{recordAt, viewsOf, recordsIn, placesOf}
+use Rattle.account.proofs.Views.{records-step, records-of-places, table-malformed, table-sound}
 
 -- ---- the key at an index
 
@@ -37,13 +37,14 @@ key-of-rest [] (suc i) r rest e = absurd (let z : _≡_ {A = ℕ} 0 1 = cc in om
 key-of-rest (a ∷ l) zero r rest e = ap (λ (x : Record). x .key) (let same : a ≡ r = cc in same)
 key-of-rest (a ∷ l) (suc i) r rest e = key-of-rest l i r rest e
 
-pub key-there : (s : List ℕ) (t : Table) (i : ℕ) (d : RecordView) → i < t .count → i < length (t .views)
-    → keyAmong (recordsAt s t) i ≡ recordAt s (getD (t .views) i d) .key
-key-there s t i d hc hv = key-of-rest (recordsAt s t) i _ _ (records-step s t i d hc hv)
+pub key-there : (s row : List ℕ) (i : ℕ) (d : RecordView) → i < length row / 2
+    → keyAmong (recordsIn s row) i ≡ recordAt s (getD (viewsOf row) i d) .key
+key-there s row i d h = key-of-rest (recordsIn s row) i _ _ (records-step s row i d h)
 
-pub key-of-table : (s : List ℕ) (i : ℕ) → keyAmong (recordsAt s (tableOf (cutTable s))) i ≡ keyAt s i
+pub key-of-table : (s : List ℕ) (cut : Places) (i : ℕ) → cut ≡ placesOf (cutTable s)
+    → keyAmong (recordsIn s (take (2 * cut .count) (cut .list))) i ≡ keyAt s i
 unfolding keyAt
-key-of-table s i = rw (records-of-table s)
+key-of-table s cut i whole = rw (records-of-places s cut whole)
 
 -- ---- indexes below a count
 
@@ -88,7 +89,7 @@ module _ (count : ℕ) (source : List ℕ) (e : Entry) where
   unfolding resolvable
   accounts-decide ha hp h = rw (ha, hp, lt-ltb _ _ h)
 
-module _ (s : List ℕ) (e : Entry) (source : List ℕ) (cut : Table) (whole : cut ≡ tableOf (cutTable s)) where
+module _ (s : List ℕ) (e : Entry) (source : List ℕ) (cut : Places) (whole : cut ≡ placesOf (cutTable s)) where
   pub resolve-malformed : accepts (cut .answer) ≡ false → resolving s e source ≡ cut .answer
   unfolding resolving
   resolve-malformed h = rw (table-malformed s cut whole h, resolving)
@@ -97,4 +98,6 @@ module _ (s : List ℕ) (e : Entry) (source : List ℕ) (cut : Table) (whole : c
   pub resolve-sound : (fits : Bool) → accepts (cut .answer) ≡ true → resolvable (cut .count) source e ≡ fits
       → resolving s e source ≡ refuseIf (not fits) invalidInstructionData
   unfolding resolving
-  resolve-sound fits h decided = rw (table-sound s cut whole h, resolving, table-count s cut whole, decided)
+  resolve-sound fits h decided =
+      let (l, is-given, counted) = table-sound s cut whole h in
+      rw (is-given, resolving, counted, decided)

@@ -2,10 +2,10 @@
 -- Assumes nothing.
 use mathlib.Core.Path.{_≡_, refl, sym, ap, subst, _∙_}
 use mathlib.Core.List.{List, [], _∷_, _++_, append-nil}
-use Prim.Native.Nat.{ℕ, suc, _+_, _-_, _<_, _≤_}
+use Prim.Native.Nat.{ℕ, suc, _+_, _-_, _*_, _<_, _≤_}
 use native.Mathlib.Omega.{arith}
 use lib.ListN.{length, drop, set, replicate, length-append, length-drop}
-use lib.Seq.{drop-drop, set-at, append-snoc}
+use lib.Seq.{drop-drop}
 use Rattle.answer.specs.declared.Answer.{Answer}
 use Rattle.answer.specs.Numbers.{answer, accepted, badTable}
 use Rattle.answer.specs.Refusable.{given, refused, change}
@@ -13,8 +13,9 @@ use Rattle.account.specs.declared.RecordView.{RecordView}
 use Rattle.account.specs.declared.parse.RecordRead.the-variants.{View, Refused}
 use Rattle.number.specs.Number.{numberAt}
 use Rattle.account.specs.Table.{Record, FirstRecord, firstRecord, cutRecords, cutTable}
-use Rattle.account.specs.Views.{viewAt, readAt, placed, zeroView, tableOf}
+use Rattle.account.specs.Views.{viewAt, readAt, placed, rowOf, placesOf}
 use Rattle.account.proofs.Refusing.{none-in-front, more-in-front}
+use Rattle.account.proofs.InRow.{row-next}
 use Rattle.account.proofs.Cutting.{table-counted, IsFirst, first-is, cut-end, cut-more, cut-refused, cut-first, view-first, refused-first}
 
 -- the place after some records that are laid from a place
@@ -37,18 +38,18 @@ unfolding endOf
 end-append place [] r = refl
 end-append place (b ∷ l) r = end-append (place + 68 + length (b .payload)) l r
 
-pub record CutSoFar (s : List ℕ) (counted : ℕ) (views : List RecordView) (count at : ℕ) : Type 0 where
+pub record CutSoFar (s : List ℕ) (counted : ℕ) (list : List ℕ) (count at : ℕ) : Type 0 where
   pub done : List Record
   pub long : length done ≡ count
   pub most : count ≤ counted
   pub few : counted ≤ 64
   pub within : at ≤ length s
-  pub laid : views ≡ placed 2 done ++ replicate (64 - count) zeroView
+  pub laid : list ≡ rowOf (placed 2 done) ++ replicate (128 - 2 * count) 0
   pub ends : endOf 2 done ≡ at
   pub same : cutTable s ≡ change (λ (l : List Record). done ++ l) (cutRecords (counted - count) (drop at s))
 
-pub cut-none : (s : List ℕ) (counted : ℕ) → 2 ≤ length s → counted ≡ numberAt 2 s 0 → counted ≤ 64 → CutSoFar s counted (replicate 64 zeroView) 0 2
-unfolding placed endOf
+pub cut-none : (s : List ℕ) (counted : ℕ) → 2 ≤ length s → counted ≡ numberAt 2 s 0 → counted ≤ 64 → CutSoFar s counted (replicate 128 0) 0 2
+unfolding placed rowOf endOf
 cut-none s counted long e few =
     let all : counted - 0 ≡ counted = omega arith in
     record {
@@ -62,14 +63,14 @@ cut-none s counted long e few =
       same = table-counted s long counted e few ∙ rw all (sym (none-in-front (cutRecords counted (drop 2 s))));
     }
 
-module _ {s : List ℕ} {counted : ℕ} {views : List RecordView} {count at : ℕ} (so-far : CutSoFar s counted views count at) where
+module _ {s : List ℕ} {counted : ℕ} {list : List ℕ} {count at : ℕ} (so-far : CutSoFar s counted list count at) where
   module _ (last : counted ≤ count) where
     none-left : counted - count ≡ 0
     none-left = omega arith
 
     -- all is cut, and the last record ends the table
-    pub cut-all : length s ≤ at → tableOf (cutTable s) ≡ record { answer = answer accepted; views = views; count = count }
-    unfolding tableOf
+    pub cut-all : length s ≤ at → placesOf (cutTable s) ≡ record { answer = answer accepted; list = list; count = count }
+    unfolding placesOf
     cut-all h =
         let done = so-far .done in
         let end = cut-end (drop at s) (simp length-drop (omega arith)) in
@@ -88,12 +89,13 @@ module _ {s : List ℕ} {counted : ℕ} {views : List RecordView} {count at : �
     pub cut-stopped : (r : Answer) → readAt s at ≡ Refused r → cutTable s ≡ refused r
     cut-stopped r h = so-far .same ∙ rw (one-more, cut-refused (counted - (count + 1)) (drop at s) (refused-first s at r h))
 
-    one-place : 64 - count ≡ suc (64 - (count + 1))
-    one-place = omega arith
+    two-places : 128 - 2 * count ≡ suc (suc (128 - 2 * (count + 1)))
+    two-places = omega arith
 
     -- the next record is there
     cut-record : (f : FirstRecord) → firstRecord (drop at s) ≡ given f → IsFirst (drop at s) f
-        → CutSoFar s counted (set views count (viewAt at (f .first))) (count + 1) (at + 68 + length (f .first .payload))
+        → CutSoFar s counted (set (set list (2 * count) at) (2 * count + 1) (length (f .first .payload))) (count + 1) (at + 68 + length (f .first .payload))
+    unfolding viewAt
     cut-record f e facts =
         let done = so-far .done in
         let r = f .first in
@@ -109,7 +111,9 @@ module _ {s : List ℕ} {counted : ℕ} {views : List RecordView} {count at : �
           few = so-far .few;
           within = omega arith;
           laid =
-              rw (so-far .laid, one-place, set-at (placed 2 done) zeroView (replicate (64 - (count + 1)) zeroView) (viewAt at r) count place, placed-append 2 done r, so-far .ends, append-snoc);
+              rw (so-far .laid, two-places, placed-append 2 done r, so-far .ends)
+              (subst (λ (n : ℕ). set (set (rowOf (placed 2 done) ++ (0 ∷ 0 ∷ replicate (128 - 2 * (count + 1)) 0)) (2 * n) at) (2 * n + 1) (length (r .payload)) ≡ rowOf (placed 2 done ++ (viewAt at r ∷ [])) ++ replicate (128 - 2 * (count + 1)) 0) place
+              (row-next (placed 2 done) (viewAt at r) (replicate (128 - 2 * (count + 1)) 0)));
           ends = end-append 2 done r ∙ rw (so-far .ends);
           same =
               so-far .same
@@ -127,9 +131,9 @@ module _ {s : List ℕ} {counted : ℕ} {views : List RecordView} {count at : �
           let inside = rw (length-drop at s) at (facts .within) in
           rw (← p) (omega arith)
 
-      pub cut-one : CutSoFar s counted (set views count v) (count + 1) (v .at + 68 + v .len)
+      pub cut-one : CutSoFar s counted (set (set list (2 * count) (v .at)) (2 * count + 1) (v .len)) (count + 1) (v .at + 68 + v .len)
       unfolding viewAt
       cut-one =
           let (f, e, p) = view-first s at v h in
           let facts = first-is (drop at s) f e in
-          subst (λ (w : RecordView). CutSoFar s counted (set views count w) (count + 1) (w .at + 68 + w .len)) p (cut-record f e facts)
+          subst (λ (w : RecordView). CutSoFar s counted (set (set list (2 * count) (w .at)) (2 * count + 1) (w .len)) (count + 1) (w .at + 68 + w .len)) p (cut-record f e facts)

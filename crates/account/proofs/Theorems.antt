@@ -4,7 +4,7 @@ use mathlib.Core.Path.{_≡_, refl, ap, _∙_}
 use mathlib.Core.Bool.{Bool, true, false, not, _&&_, and-eq-true-iff}
 use mathlib.Core.List.{List, [], _∷_, _++_, List·Permᴰ, List·Permᴰ·nil, List·Permᴰ·cons, List·Permᴰ·swap, List·Permᴰ·trans}
 use mathlib.Core.Logic.{_↔_}
-use Prim.Native.Nat.{ℕ, zero, suc, _+_, _<_, _≤_}
+use Prim.Native.Nat.{ℕ, zero, suc, _+_, _*_, _<_, _≤_}
 use native.Mathlib.Nat.{not-suc-le-zero, le-of-suc-le-suc}
 use native.Mathlib.Omega.{arith}
 use borrow.Author.Tests.{ltb-true, ltb-false}
@@ -21,9 +21,9 @@ use Rattle.compact.proofs.Parts.{length-part}
 use Rattle.account.specs.Table.{Record, AllStorable, cutRecords, cutTable, recordsOf, glueTable, mostRecords}
 use Rattle.account.specs.Tokens.{isTokenAccount, isCounted, share, holdings, balance, tokenAccountLength}
 use Rattle.account.specs.Indexes.{allBelow, resolvable, resolving, keyAmong, keyAt}
-use Rattle.account.specs.Views.{tableOf, recordsAt}
+use Rattle.account.specs.Views.{recordsIn, placesOf}
 use Rattle.account.proofs.Given.{none-given, one-given, table-given, table-refusal}
-use Rattle.account.proofs.Views.{records-of-table}
+use Rattle.account.proofs.Views.{records-of-places}
 use Rattle.account.proofs.Gluing.{table-glued, table-bytes}
 use Rattle.account.proofs.Balances.{token-account-long, holdings-append}
 use Rattle.account.proofs.Lookups.{key-past, within-ends}
@@ -42,9 +42,9 @@ cutting-what-was-glued-gives-the-records l few sound = table-glued l few sound
 pub gluing-what-was-cut-gives-the-bytes : (s : List ℕ) (l : List Record) → Bytes s → cutTable s ≡ given l → glueTable l ≡ s
 gluing-what-was-cut-gives-the-bytes s l bytes e = table-bytes s l bytes e
 
--- the views that cutting answers with name the records of the table, and none where it is malformed
-pub views-name-the-records : (s : List ℕ) → recordsAt s (tableOf (cutTable s)) ≡ recordsOf (cutTable s)
-views-name-the-records s = records-of-table s
+-- the places that cutting answers with name the records of the table, and none where it is malformed
+pub views-name-the-records : (s : List ℕ) → recordsIn s (take (2 * placesOf (cutTable s) .count) (placesOf (cutTable s) .list)) ≡ recordsOf (cutTable s)
+views-name-the-records s = records-of-places s (placesOf (cutTable s)) refl
 
 -- ---- token accounts and balances
 

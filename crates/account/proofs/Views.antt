@@ -1,35 +1,35 @@
--- Laws of views: the records of the counted views one after the other, and that a table's views name the records that were cut.
+-- Laws of views: the records of a row one after the other, and that a table's places name the records that were cut.
 -- Assumes nothing.
 use mathlib.Core.Path.{_≡_, refl, sym, ap, ap₂, _∙_}
 use mathlib.Core.Bool.{true, false}
 use mathlib.Core.List.{List, _∷_, map}
-use Prim.Native.Nat.{ℕ, zero, suc, _+_, _-_, _<_, min}
+use Prim.Native.Nat.{ℕ, zero, suc, _+_, _-_, _*_, _/_, _<_}
 use native.Mathlib.Omega.{arith}
-use lib.ListN.{length, getD, take, drop, replicate, length-take, length-map, List·getD-map}
-use lib.Seq.{drop-cons, drop-drop, getD-take, take-at}
+use lib.ListN.{length, getD, take, drop, replicate, length-map, List·getD-map}
+use lib.Seq.{drop-cons, drop-drop, take-at}
 use Rattle.answer.specs.Numbers.{accepts}
 use Rattle.answer.specs.Refusable.{Refusable, given, refused}
 use Rattle.account.specs.declared.RecordView.{RecordView}
-use Rattle.account.specs.declared.Table.{Table}
+use Rattle.account.specs.declared.Places.{Places}
 use Rattle.account.specs.Table.{Record, FirstRecord, cutRecords, cutTable, recordsOf}
-use Rattle.account.specs.Views.{viewAt, placed, zeroView, tableOf, partAt, recordAt, viewsIn, recordsAt}
+use Rattle.account.specs.Views.{viewAt, placed, partAt, recordAt, viewsOf, rowOf, recordsIn, placesOf}
 use Rattle.account.proofs.Parts.{part-there}
 use Rattle.account.proofs.Cutting.{IsFirst}
+use Rattle.account.proofs.InRow.{length-views, views-of-row, length-row}
 use Rattle.account.proofs.Parsing.{length-placed}
 use Rattle.account.proofs.Given.{none-given, one-given, table-given, table-refusal}
 
--- the records of the counted views, one after the other
-pub records-step : (s : List ℕ) (t : Table) (i : ℕ) (d : RecordView) → i < t .count → i < length (t .views)
-    → drop i (recordsAt s t) ≡ recordAt s (getD (t .views) i d) ∷ drop (suc i) (recordsAt s t)
-unfolding recordsAt viewsIn
-records-step s t i d hc hv =
-    let counted = take (t .count) (t .views) in
-    let inside : i < length (map (recordAt s) counted) = simp (length-map, length-take) (omega arith) in
-    rw (drop-cons (map (recordAt s) counted) i (recordAt s d), List·getD-map (recordAt s) counted i d, getD-take (t .count) (t .views) i d)
+-- the records of a row, one after the other
+pub records-step : (s row : List ℕ) (i : ℕ) (d : RecordView) → i < length row / 2
+    → drop i (recordsIn s row) ≡ recordAt s (getD (viewsOf row) i d) ∷ drop (suc i) (recordsIn s row)
+unfolding recordsIn
+records-step s row i d h =
+    let inside : i < length (map (recordAt s) (viewsOf row)) = simp (length-map, length-views) h in
+    rw (drop-cons (map (recordAt s) (viewsOf row)) i (recordAt s d), List·getD-map (recordAt s) (viewsOf row) i d)
 
-pub length-records : (s : List ℕ) (t : Table) → length (recordsAt s t) ≡ min (t .count) (length (t .views))
-unfolding recordsAt viewsIn
-length-records s t = simp (length-map, length-take)
+pub length-records : (s row : List ℕ) → length (recordsIn s row) ≡ length row / 2
+unfolding recordsIn
+length-records s row = simp (length-map, length-views)
 
 -- the view of the first record at a place names it
 first-named : (s : List ℕ) (at : ℕ) (f : FirstRecord) → IsFirst (drop at s) f → recordAt s (viewAt at (f .first)) ≡ f .first
@@ -56,42 +56,36 @@ placed-named (suc n) s at l e =
     let others = placed-named n s (at + 68 + length (r .payload)) (g .others) (rw after at (g .rest-given)) in
     rw (g .all) (ap₂ (λ (a : Record) (m : List Record). a ∷ m) (first-named s at (g .one) (g .is-first)) others)
 
--- the records that the views of a cut table name
-pub views-name : (s : List ℕ) (x : Refusable (List Record)) → cutTable s ≡ x → recordsAt s (tableOf x) ≡ recordsOf x
-unfolding recordsAt viewsIn tableOf
-views-name s (given l) e =
-    rw (take-at (placed 2 l) (replicate (64 - length l) zeroView) (length l) (length-placed 2 l))
+-- ---- what a cut table's places say
+
+places-name : (s : List ℕ) (x : Refusable (List Record)) → cutTable s ≡ x → recordsIn s (take (2 * placesOf x .count) (placesOf x .list)) ≡ recordsOf x
+unfolding recordsIn placesOf viewsOf
+places-name s (given l) e =
+    let long = length-row (placed 2 l) ∙ ap (λ (n : ℕ). 2 * n) (length-placed 2 l) in
+    rw (take-at (rowOf (placed 2 l)) (replicate (128 - 2 * length l) 0) (2 * length l) long, views-of-row (placed 2 l))
     (placed-named _ s 2 l (table-given s l e .records-given))
-views-name s (refused r) e = refl
+places-name s (refused r) e = refl
 
-pub records-of-table : (s : List ℕ) → recordsAt s (tableOf (cutTable s)) ≡ recordsOf (cutTable s)
-records-of-table s = views-name s (cutTable s) refl
+module _ (s : List ℕ) (cut : Places) (whole : cut ≡ placesOf (cutTable s)) where
+  -- the places that are counted name the records of the table
+  pub records-of-places : recordsIn s (take (2 * cut .count) (cut .list)) ≡ recordsOf (cutTable s)
+  records-of-places = ap (λ (p : Places). recordsIn s (take (2 * p .count) (p .list))) whole ∙ places-name s (cutTable s) refl
 
--- ---- what a cut table's answer says
-
-module _ (s : List ℕ) (cut : Table) (whole : cut ≡ tableOf (cutTable s)) where
   pub table-malformed : accepts (cut .answer) ≡ false → cutTable s ≡ refused (cut .answer)
-  unfolding tableOf
+  unfolding placesOf
   table-malformed h = rw whole (go (cutTable s) refl (rw whole at h))
     where
-      go : (x : Refusable (List Record)) → cutTable s ≡ x → accepts (tableOf x .answer) ≡ false → cutTable s ≡ refused (tableOf x .answer)
+      go : (x : Refusable (List Record)) → cutTable s ≡ x → accepts (placesOf x .answer) ≡ false → cutTable s ≡ refused (placesOf x .answer)
       go (given l) e n = absurd (let z : _≡_ {A = ℕ} 0 1 = cc in omega arith)
       go (refused r) e n = e
 
-  pub table-sound : accepts (cut .answer) ≡ true → cutTable s ≡ given (recordsAt s cut)
-  unfolding tableOf
+  pub table-sound : accepts (cut .answer) ≡ true → (l : List Record) × (cutTable s ≡ given l) × (length l ≡ cut .count)
+  unfolding placesOf
   table-sound h = rw whole (go (cutTable s) refl (rw whole at h))
     where
-      go : (x : Refusable (List Record)) → cutTable s ≡ x → accepts (tableOf x .answer) ≡ true → cutTable s ≡ given (recordsAt s (tableOf x))
-      go (given l) e n = e ∙ ap given (sym (views-name s (given l) e))
+      go : (x : Refusable (List Record)) → cutTable s ≡ x → accepts (placesOf x .answer) ≡ true
+          → (l : List Record) × (cutTable s ≡ given l) × (length l ≡ placesOf x .count)
+      go (given l) e n = (l, e, refl)
       go (refused r) e n =
           let bad : accepts r ≡ false = rw (table-refusal s r e) in
           absurd (let z : _≡_ {A = ℕ} 0 1 = cc in omega arith)
-
-  pub table-count : length (recordsAt s cut) ≡ cut .count
-  unfolding tableOf
-  table-count = rw whole (go (cutTable s) refl)
-    where
-      go : (x : Refusable (List Record)) → cutTable s ≡ x → length (recordsAt s (tableOf x)) ≡ tableOf x .count
-      go (given l) e = ap (λ (m : List Record). length m) (views-name s (given l) e)
-      go (refused r) e = ap (λ (m : List Record). length m) (views-name s (refused r) e)

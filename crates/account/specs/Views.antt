@@ -1,6 +1,6 @@
 -- Where the records of a table lie: the values that the code answers with, each from the records that were cut.
 -- Assumes nothing.
-use Prim.Native.Nat.{ℕ, _+_, _-_}
+use Prim.Native.Nat.{ℕ, _+_, _-_, _*_}
 use mathlib.Core.Bool.{cond}
 use mathlib.Core.List.{List, [], _∷_, _++_, map}
 use lib.Dec.{leb}
@@ -11,7 +11,6 @@ use Rattle.answer.specs.Refusable.{Refusable, given, refused}
 use Rattle.account.specs.declared.RecordView.{RecordView}
 use Rattle.account.specs.declared.parse.RecordRead.{RecordRead}
 use Rattle.account.specs.declared.parse.RecordRead.the-variants.{View, Refused}
-use Rattle.account.specs.declared.Table.{Table}
 use Rattle.account.specs.declared.Places.{Places}
 use Rattle.account.specs.Table.{Record, firstRecord, tableHeader, recordHeader, mostRecords}
 
@@ -39,12 +38,6 @@ abbrev pub readAnswer : RecordRead → Answer
 readAnswer (View v) = answer accepted
 readAnswer (Refused r) = r
 
--- a table's views: those of the records that were cut, and none where it was refused
-unfoldable pub tableOf : Refusable (List Record) → Table
-unfolding placed
-tableOf (given l) = record { answer = answer accepted; views = placed tableHeader l ++ replicate (mostRecords - length l) zeroView; count = length l }
-tableOf (refused r) = record { answer = r; views = replicate 64 zeroView; count = 0 }
-
 -- the `len` bytes at a place, nothing where they are not all there
 unfoldable pub partAt : List ℕ → ℕ → ℕ → List ℕ
 partAt s at len = cond (leb (at + len) (length s)) (take len (drop at s)) []
@@ -53,15 +46,6 @@ partAt s at len = cond (leb (at + len) (length s)) (take len (drop at s)) []
 unfoldable pub recordAt : List ℕ → RecordView → Record
 unfolding partAt
 recordAt s v = record { key = partAt (drop (v .at) s) 0 32; owner = partAt (drop (v .at) s) 32 32; payload = partAt (drop (v .at) s) recordHeader (v .len) }
-
--- the views that are counted
-unfoldable pub viewsIn : Table → List RecordView
-viewsIn t = take (t .count) (t .views)
-
--- the records that the counted views name
-unfoldable pub recordsAt : List ℕ → Table → List Record
-unfolding recordAt viewsIn
-recordsAt s t = map (recordAt s) (viewsIn t)
 
 -- the views that a row of numbers holds, two numbers for each: where the record starts and how long its data is
 unfoldable pub viewsOf : List ℕ → List RecordView
@@ -74,11 +58,13 @@ unfoldable pub rowOf : List RecordView → List ℕ
 rowOf [] = []
 rowOf (v ∷ l) = v .at ∷ v .len ∷ rowOf l
 
--- a table with its views as a row of numbers
-unfoldable pub placesOf : Table → Places
-unfolding rowOf
-placesOf t = record { answer = t .answer; list = rowOf (t .views); count = t .count }
+-- the records that the views of a row name
+unfoldable pub recordsIn : List ℕ → List ℕ → List Record
+unfolding recordAt viewsOf
+recordsIn s row = map (recordAt s) (viewsOf row)
 
--- the table that a row of numbers and a count give
-abbrev pub tableIn : List ℕ → ℕ → Table
-tableIn list count = record { answer = answer accepted; views = viewsOf list; count = count }
+-- a table's places: those of the records that were cut, and none where it was refused
+unfoldable pub placesOf : Refusable (List Record) → Places
+unfolding placed rowOf
+placesOf (given l) = record { answer = answer accepted; list = rowOf (placed tableHeader l) ++ replicate (2 * mostRecords - 2 * length l) 0; count = length l }
+placesOf (refused r) = record { answer = r; list = replicate (2 * mostRecords) 0; count = 0 }

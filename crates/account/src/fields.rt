@@ -3,8 +3,8 @@ use crate::RECORD_HEADER_SIZE;
 use crate::RecordView;
 use key::KEY_LENGTH;
 ghost use mathlib.Core.Path.{_≡_};
-ghost use lib.ListN.{length, getD, drop};
-ghost use Prim.Native.Nat.{min};
+ghost use Prim.Native.Nat.{_*_};
+ghost use lib.ListN.{getD, take, drop};
 ghost use Rattle.account.specs.Views.{partAt, recordAt, viewsOf, zeroView};
 
 const OWNER_PLACE: usize = 32;
@@ -53,22 +53,25 @@ pub fn record_payload(table: &[u8], view: RecordView) -> &[u8]
 }
 
 // The view at an index of a row of numbers, the zero view past the last.
-pub fn view_in(list: &[usize], i: usize) -> RecordView
-    ensures { λ r. ⌜ r ≡ getD (viewsOf (now (list .entry))) i zeroView ⌝ }
+pub fn view_in(places: &[usize], i: usize) -> RecordView
+    ensures { λ r. ⌜ r ≡ getD (viewsOf (now (places .entry))) i zeroView ⌝ }
 {
-    if list.len() / 2 <= i {
+    if places.len() / 2 <= i {
         return RecordView { at: 0, len: 0 };
     }
     RecordView {
-        at: list[2 * i],
-        len: list[2 * i + 1],
+        at: places[2 * i],
+        len: places[2 * i + 1],
     }
 }
 
-// How many views of a row there are to look at, whatever the count says.
-pub fn counted_in(list: &[usize], count: usize) -> usize
-    ensures { λ r. ⌜ r ≡ min count (length (viewsOf (now (list .entry)))) ⌝ }
+// The row of as many views as are counted, or all that there is of it. Its length says how many there
+// are, so no count goes along where it is lent.
+pub fn places_in(list: &[usize], count: usize) -> &[usize]
+    ensures { λ r. ⌜ now r ≡ take (2 * count) (now (list .entry)) ⌝ }
 {
-    let most = list.len() / 2;
-    if count < most { count } else { most }
+    if list.len() / 2 < count {
+        return list;
+    }
+    &list[..2 * count]
 }

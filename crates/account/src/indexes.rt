@@ -1,6 +1,4 @@
 // Indexes into a table: the key at one, and resolving those of an instruction.
-use crate::MAX_RECORDS;
-use crate::Table;
 use crate::fields;
 use crate::parse;
 use answer::ACCEPTED;
@@ -9,28 +7,24 @@ use answer::INVALID_INSTRUCTION_DATA;
 use compact::Entry;
 ghost use mathlib.Core.Path.{_≡_};
 ghost use Rattle.account.specs.Indexes.{allBelow, resolvable, resolving, keyAmong, keyAt};
-ghost use Rattle.account.specs.Views.{recordsAt};
+ghost use Rattle.account.specs.Views.{recordsIn};
 
-// The key of the record at an index of a table that was cut, or the empty part past the last.
-pub fn key_at(table: &[u8], cut: Table, index: usize) -> &[u8]
-    ensures { λ r. ⌜ now r ≡ keyAmong (recordsAt (now (table .entry)) cut) index ⌝ }
+// The key of the record at an index of a table's row, or the empty part past the last.
+pub fn key_at<'a>(table: &'a [u8], places: &[usize], index: usize) -> &'a [u8]
+    ensures { λ r. ⌜ now r ≡ keyAmong (recordsIn (now (table .entry)) (now (places .entry))) index ⌝ }
 {
-    let count = cut.count;
-    if count <= index {
+    if places.len() / 2 <= index {
         return &table[..0];
     }
-    if MAX_RECORDS <= index {
-        return &table[..0];
-    }
-    let view = cut.views[index];
-    fields::record_key(table, view)
+    fields::record_key(table, fields::view_in(places, index))
 }
 
 // The key at an index of a table, or the empty part for a bad index or table.
 pub fn lookup(table: &[u8], index: usize) -> &[u8]
     ensures { λ r. ⌜ now r ≡ keyAt (now (table .entry)) index ⌝ }
 {
-    key_at(table, parse::cut_table(table), index)
+    let cut = parse::cut_places(table);
+    key_at(table, fields::places_in(&cut.list, cut.count), index)
 }
 
 fn all_below(indexes: &[u8], count: usize) -> bool
@@ -70,7 +64,7 @@ fn is_resolvable(count: usize, source: &[u8], entry: Entry) -> bool
 pub fn resolve(table: &[u8], entry: Entry, source: &[u8]) -> Answer
     ensures { λ r. ⌜ r ≡ resolving (now (table .entry)) entry (now (source .entry)) ⌝ }
 {
-    let cut = parse::cut_table(table);
+    let cut = parse::cut_places(table);
     if !cut.answer.accepts() {
         return cut.answer;
     }

@@ -20,13 +20,6 @@ pub struct RecordView {
     pub len: usize,
 }
 
-// A table's records in order; past the count, and on a refusal everywhere, stands the zero view.
-pub struct Table {
-    pub answer: Answer,
-    pub views: [RecordView; 64],
-    pub count: usize,
-}
-
 // A table's records in order, two numbers for each: where it starts and how long its data is; zeros
 // past the count, and on a refusal everywhere. A row of numbers is lent where views would be copied.
 pub struct Places {

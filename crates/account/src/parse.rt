@@ -4,7 +4,6 @@ use crate::Places;
 use crate::RECORD_HEADER_SIZE;
 use crate::RecordView;
 use crate::TABLE_HEADER_SIZE;
-use crate::Table;
 use answer::ACCEPTED;
 use answer::Answer;
 use answer::BAD_TABLE;
@@ -12,7 +11,7 @@ ghost use mathlib.Core.Path.{_≡_};
 ghost use Rattle.answer.specs.Numbers.{answer as answerOf, badTable};
 ghost use Rattle.answer.specs.Refusable.{refused as Refused};
 ghost use Rattle.account.specs.Table.{cutTable};
-ghost use Rattle.account.specs.Views.{readAt, readAnswer, tableOf, zeroView, placesOf};
+ghost use Rattle.account.specs.Views.{readAt, readAnswer, placesOf};
 
 // What reading a record answers.
 enum RecordRead {
@@ -56,63 +55,10 @@ fn read_answer(read: RecordRead) -> Answer
     }
 }
 
-impl RecordView {
-    fn zero() -> Self
-        ensures { λ r. ⌜ r ≡ zeroView ⌝ }
-    {
-        RecordView { at: 0, len: 0 }
-    }
-}
-
-impl Table {
-    // A refusal has no views.
-    fn refused(answer: Answer) -> Self
-        ensures { λ r. ⌜ r ≡ tableOf (Refused answer) ⌝ }
-    {
-        Table {
-            answer,
-            views: [RecordView::zero(); 64],
-            count: 0,
-        }
-    }
-}
-
-pub fn cut_table(table: &[u8]) -> Table
-    ensures { λ r. ⌜ r ≡ tableOf (cutTable (now (table .entry))) ⌝ }
-{
-    if table.len() < TABLE_HEADER_SIZE {
-        return Table::refused(Answer::of(BAD_TABLE));
-    }
-    let counted = number::read_u16(table, 0) as usize;
-    if MAX_RECORDS < counted {
-        return Table::refused(Answer::of(BAD_TABLE));
-    }
-    let mut views = [RecordView::zero(); 64];
-    let mut count = 0;
-    let mut at = TABLE_HEADER_SIZE;
-    while count < counted {
-        let read = read_record(table, at);
-        let RecordRead::View(view) = read else {
-            return Table::refused(read_answer(read));
-        };
-        views[count] = view;
-        count += 1;
-        at = view.at + RECORD_HEADER_SIZE + view.len;
-    }
-    if at < table.len() {
-        return Table::refused(Answer::of(BAD_TABLE));
-    }
-    Table {
-        answer: Answer::of(ACCEPTED),
-        views,
-        count,
-    }
-}
-
 impl Places {
     // A refusal has no places.
     fn refused(answer: Answer) -> Self
-        ensures { λ r. ⌜ r ≡ placesOf (tableOf (Refused answer)) ⌝ }
+        ensures { λ r. ⌜ r ≡ placesOf (Refused answer) ⌝ }
     {
         Places {
             answer,
@@ -122,36 +68,37 @@ impl Places {
     }
 }
 
-// The same into a row of numbers.
+// The places are written where they are handed back, so that no list of a kilobyte is copied.
 pub fn cut_places(table: &[u8]) -> Places
-    ensures { λ r. ⌜ r ≡ placesOf (tableOf (cutTable (now (table .entry)))) ⌝ }
+    ensures { λ r. ⌜ r ≡ placesOf (cutTable (now (table .entry))) ⌝ }
 {
     if table.len() < TABLE_HEADER_SIZE {
         return Places::refused(Answer::of(BAD_TABLE));
     }
     let counted = number::read_u16(table, 0) as usize;
-    if counted > MAX_RECORDS {
+    if MAX_RECORDS < counted {
         return Places::refused(Answer::of(BAD_TABLE));
     }
-    let mut list = [0usize; 128];
+    let mut cut = Places {
+        answer: Answer::of(ACCEPTED),
+        list: [0usize; 128],
+        count: 0,
+    };
     let mut count = 0;
-    let mut at: usize = TABLE_HEADER_SIZE;
+    let mut at = TABLE_HEADER_SIZE;
     while count < counted {
         let read = read_record(table, at);
         let RecordRead::View(view) = read else {
             return Places::refused(read_answer(read));
         };
-        list[2 * count] = view.at;
-        list[2 * count + 1] = view.len;
+        cut.list[2 * count] = view.at;
+        cut.list[2 * count + 1] = view.len;
         count += 1;
         at = view.at + RECORD_HEADER_SIZE + view.len;
     }
-    if table.len() > at {
+    if at < table.len() {
         return Places::refused(Answer::of(BAD_TABLE));
     }
-    Places {
-        answer: Answer::of(ACCEPTED),
-        list,
-        count,
-    }
+    cut.count = count;
+    cut
 }

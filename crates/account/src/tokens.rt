@@ -6,7 +6,7 @@ use crate::programs::TOKEN_2022;
 ghost use mathlib.Core.Path.{_≡_};
 ghost use Rattle.number.specs.Number.{cappedSum};
 ghost use Rattle.account.specs.Tokens.{isTokenAccount, mintOf, isCounted, share, balance as balanceOf};
-ghost use Rattle.account.specs.Views.{recordAt, recordsAt, tableIn};
+ghost use Rattle.account.specs.Views.{recordAt, recordsIn};
 
 const TOKEN_ACCOUNT_MIN_SIZE: usize = 165;
 
@@ -68,14 +68,14 @@ fn added(total: u64, table: &[u8], view: RecordView, vault: &[u8], mint: &[u8]) 
 
 // A mint's balance over the records of a row, from the last to the first as the sum is defined. The
 // row is lent: a table by value would be copied for every mint.
-pub fn balance(table: &[u8], list: &[usize], count: usize, vault: &[u8], mint: &[u8]) -> u64
-    ensures { λ r. ⌜ r ≡ balanceOf (now (vault .entry)) (now (mint .entry)) (recordsAt (now (table .entry)) (tableIn (now (list .entry)) count)) ⌝ }
+pub fn balance(table: &[u8], places: &[usize], vault: &[u8], mint: &[u8]) -> u64
+    ensures { λ r. ⌜ r ≡ balanceOf (now (vault .entry)) (now (mint .entry)) (recordsIn (now (table .entry)) (now (places .entry))) ⌝ }
 {
     let mut total = 0;
-    let mut i = fields::counted_in(list, count);
+    let mut i = places.len() / 2;
     while 0 < i {
         i -= 1;
-        let view = fields::view_in(list, i);
+        let view = fields::view_in(places, i);
         total = added(total, table, view, vault, mint);
     }
     total

@@ -5,9 +5,9 @@
 use mathlib.Core.Bool.{Bool}
 use mathlib.Core.List.{List, [], map}
 use mathlib.Core.Path.{_≡_, ap₂}
-use Prim.Native.Nat.{_+_, min, ℕ}
+use Prim.Native.Nat.{_*_, _+_, min, ℕ}
 use lib.Dec.{leb}
-use lib.ListN.{getD, length}
+use lib.ListN.{getD, length, take}
 use Rattle.answer.specs.Numbers.{accepts, answer}
 use Rattle.answer.specs.Outcome.{one-outcome}
 use Rattle.answer.specs.Refusable.{refused}
@@ -33,10 +33,9 @@ use Rattle.compact.specs.declared.Written.{Written}
 use Rattle.account.specs.Indexes.{keyAmong, keyAt, resolving}
 use Rattle.account.specs.Table.{cutTable}
 use Rattle.account.specs.Tokens.{balance as balanceOf, isCounted, isTokenAccount, mintOf}
-use Rattle.account.specs.Views.{placesOf, recordAt, recordsAt, tableIn, tableOf, viewsOf, zeroView}
+use Rattle.account.specs.Views.{placesOf, recordAt, recordsIn, viewsOf, zeroView}
 use Rattle.account.specs.declared.Places.{Places}
 use Rattle.account.specs.declared.RecordView.{RecordView}
-use Rattle.account.specs.declared.Table.{Table}
 use Rattle.limit.specs.Limit.{changeOf, classAnswer, ruleAnswer}
 use Rattle.limit.specs.Views.{chargesAt, settledAt}
 use Rattle.limit.specs.declared.Amounts.{Amounts}
@@ -284,18 +283,18 @@ pub account-fields-record-payload : (table : List ℕ) (view : RecordView)
 account-fields-record-payload _ _ _ _ p q = one-outcome p q
 
 -- account::fields::view_in
-pub account-fields-view-in : (list : List ℕ) (i : ℕ)
-    → OneOutcome (λ (r : RecordView). r ≡ getD (viewsOf list) i zeroView)
+pub account-fields-view-in : (places : List ℕ) (i : ℕ)
+    → OneOutcome (λ (r : RecordView). r ≡ getD (viewsOf places) i zeroView)
 account-fields-view-in _ _ _ _ p q = one-outcome p q
 
--- account::fields::counted_in
-pub account-fields-counted-in : (list : List ℕ) (count : ℕ)
-    → OneOutcome (λ (r : ℕ). r ≡ min count (length (viewsOf list)))
-account-fields-counted-in _ _ _ _ p q = one-outcome p q
+-- account::fields::places_in
+pub account-fields-places-in : (list : List ℕ) (count : ℕ)
+    → OneOutcome (λ (r : List ℕ). r ≡ take (2 * count) list)
+account-fields-places-in _ _ _ _ p q = one-outcome p q
 
 -- account::indexes::key_at
-pub account-indexes-key-at : (table : List ℕ) (cut : Table) (index : ℕ)
-    → OneOutcome (λ (r : List ℕ). r ≡ keyAmong (recordsAt table cut) index)
+pub account-indexes-key-at : (table places : List ℕ) (index : ℕ)
+    → OneOutcome (λ (r : List ℕ). r ≡ keyAmong (recordsIn table places) index)
 account-indexes-key-at _ _ _ _ _ p q = one-outcome p q
 
 -- account::indexes::lookup
@@ -308,14 +307,9 @@ pub account-indexes-resolve : (table : List ℕ) (entry : Entry) (source : List 
     → OneOutcome (λ (r : Answer). r ≡ resolving table entry source)
 account-indexes-resolve _ _ _ _ _ p q = one-outcome p q
 
--- account::parse::cut_table
-pub account-parse-cut-table : (table : List ℕ)
-    → OneOutcome (λ (r : Table). r ≡ tableOf (cutTable table))
-account-parse-cut-table _ _ _ p q = one-outcome p q
-
 -- account::parse::cut_places
 pub account-parse-cut-places : (table : List ℕ)
-    → OneOutcome (λ (r : Places). r ≡ placesOf (tableOf (cutTable table)))
+    → OneOutcome (λ (r : Places). r ≡ placesOf (cutTable table))
 account-parse-cut-places _ _ _ p q = one-outcome p q
 
 -- account::tokens::is_token_account
@@ -334,9 +328,9 @@ pub account-tokens-is-counted : (table : List ℕ) (view : RecordView) (vault : 
 account-tokens-is-counted _ _ _ _ _ p q = one-outcome p q
 
 -- account::tokens::balance
-pub account-tokens-balance : (table list : List ℕ) (count : ℕ) (vault mint : List ℕ)
-    → OneOutcome (λ (r : ℕ). r ≡ balanceOf vault mint (recordsAt table (tableIn list count)))
-account-tokens-balance _ _ _ _ _ _ _ p q = one-outcome p q
+pub account-tokens-balance : (table places vault mint : List ℕ)
+    → OneOutcome (λ (r : ℕ). r ≡ balanceOf vault mint (recordsIn table places))
+account-tokens-balance _ _ _ _ _ _ p q = one-outcome p q
 
 -- ---- limit
 
@@ -363,9 +357,9 @@ limit-settle _ _ _ _ _ _ p q = one-outcome p q
 -- ---- judge
 
 -- judge::amounts::amounts
-pub judge-amounts-amounts : (region : List ℕ) (parsed : action-Parsed) (before «before_list» : List ℕ) («before_count» : ℕ) (after «after_list» : List ℕ) («after_count» : ℕ) (vault : List ℕ) (sol gross : ℕ)
-    → OneOutcome (λ (r : Amounts). r ≡ judge-amountsOf (map (amountFrom vault (recordsAt before (tableIn «before_list» «before_count»)) (recordsAt after (tableIn «after_list» «after_count»)) sol gross) (actionsAt region parsed)))
-judge-amounts-amounts _ _ _ _ _ _ _ _ _ _ _ _ _ p q = one-outcome p q
+pub judge-amounts-amounts : (region : List ℕ) (parsed : action-Parsed) (before «before_places» after «after_places» vault : List ℕ) (sol gross : ℕ)
+    → OneOutcome (λ (r : Amounts). r ≡ judge-amountsOf (map (amountFrom vault (recordsIn before «before_places») (recordsIn after «after_places») sol gross) (actionsAt region parsed)))
+judge-amounts-amounts _ _ _ _ _ _ _ _ _ _ _ p q = one-outcome p q
 
 -- judge::call::judge
 pub judge-call-judge : (region before after instructions vault : List ℕ) (slot «lamports_before» «lamports_after» gross : ℕ)
@@ -373,14 +367,14 @@ pub judge-call-judge : (region before after instructions vault : List ℕ) (slot
 judge-call-judge _ _ _ _ _ _ _ _ _ _ _ p q = one-outcome (both p) (both q)
 
 -- judge::freeze::verify_token_authorities_unchanged
-pub judge-freeze-verify-token-authorities-unchanged : (before «before_list» : List ℕ) («before_count» : ℕ) (after «after_list» : List ℕ) («after_count» : ℕ) (vault : List ℕ) (mints : Keys)
-    → OneOutcome (λ (r : Bool). r ≡ allFrozen vault (λ (mint : List ℕ). isAmong mint (keysIn mints)) (recordsAt after (tableIn «after_list» «after_count»)) (recordsAt before (tableIn «before_list» «before_count»)))
-judge-freeze-verify-token-authorities-unchanged _ _ _ _ _ _ _ _ _ _ p q = one-outcome p q
+pub judge-freeze-verify-token-authorities-unchanged : (before «before_places» after «after_places» vault : List ℕ) (mints : Keys)
+    → OneOutcome (λ (r : Bool). r ≡ allFrozen vault (λ (mint : List ℕ). isAmong mint (keysIn mints)) (recordsIn after «after_places») (recordsIn before «before_places»))
+judge-freeze-verify-token-authorities-unchanged _ _ _ _ _ _ _ _ p q = one-outcome p q
 
 -- judge::programs::evaluate_pre_actions
-pub judge-programs-evaluate-pre-actions : (region : List ℕ) (parsed : action-Parsed) (table list : List ℕ) (count : ℕ) (entries : Entries) (slot : ℕ)
-    → OneOutcome (λ (r : Answer). r ≡ programsAnswer slot (actionsAt region parsed) (recordsAt table (tableIn list count)) (programsIn entries))
-judge-programs-evaluate-pre-actions _ _ _ _ _ _ _ _ _ p q = one-outcome p q
+pub judge-programs-evaluate-pre-actions : (region : List ℕ) (parsed : action-Parsed) (table places : List ℕ) (entries : Entries) (slot : ℕ)
+    → OneOutcome (λ (r : Answer). r ≡ programsAnswer slot (actionsAt region parsed) (recordsIn table places) (programsIn entries))
+judge-programs-evaluate-pre-actions _ _ _ _ _ _ _ _ p q = one-outcome p q
 
 -- ---- thimbleford
 

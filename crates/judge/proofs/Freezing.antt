@@ -4,7 +4,7 @@ use mathlib.Core.Path.{_≡_, refl, sym, ap, _∙_}
 use mathlib.Core.Bool.{Bool, true, false, not, _&&_, _||_, and-false}
 use mathlib.Core.List.{List, [], _∷_}
 use mathlib.Core.Option.{some}
-use Prim.Native.Nat.{ℕ, suc, _-_, _<_, _≤_, min}
+use Prim.Native.Nat.{ℕ, suc, _-_, _/_, _<_, _≤_, min}
 use native.Mathlib.Omega.{arith}
 use lib.ListN.{length, getD, take, drop, length-drop, drop-of-length-le}
 use lib.Seq.{take-all, take-nil}
@@ -13,10 +13,9 @@ use Rattle.key.specs.declared.Keys.{Keys}
 use Rattle.key.specs.Key.{sameKey, sameBytes, isAmong, keysIn}
 use Rattle.key.proofs.Laws.{keys-step, keys-end}
 use Rattle.account.specs.declared.RecordView.{RecordView}
-use Rattle.account.specs.declared.Table.{Table}
 use Rattle.account.specs.Table.{Record}
 use Rattle.account.specs.Tokens.{isTokenAccount, isCounted, mintOf}
-use Rattle.account.specs.Views.{recordAt, recordsAt, zeroView}
+use Rattle.account.specs.Views.{recordAt, viewsOf, recordsIn, zeroView}
 use Rattle.account.proofs.Views.{records-step, length-records}
 use Rattle.judge.specs.Freeze.{firstWithKey, samePart, sameAuthorities, isStill, isFoundStill, keepsFreeze, allFrozen}
 
@@ -64,9 +63,9 @@ module _ (p : List ℕ) (q : Record) where
 
 -- ---- the first record with a key
 
-seen-step : (s : List ℕ) (t : Table) (i : ℕ) (v : RecordView) → v ≡ getD (t .views) i zeroView → i < t .count → i < length (t .views)
-    → drop i (recordsAt s t) ≡ recordAt s v ∷ drop (suc i) (recordsAt s t)
-seen-step s t i v ev hc hv = rw ev (records-step s t i zeroView hc hv)
+seen-step : (s row : List ℕ) (i : ℕ) (v : RecordView) → v ≡ getD (viewsOf row) i zeroView → i < length row / 2
+    → drop i (recordsIn s row) ≡ recordAt s v ∷ drop (suc i) (recordsIn s row)
+seen-step s row i v ev inside = rw ev (records-step s row i zeroView inside)
 
 found : (key : List ℕ) (r : Record) (l : List Record) → sameKey (r .key) key ≡ true → firstWithKey key (r ∷ l) ≡ some r
 unfolding firstWithKey
@@ -76,21 +75,21 @@ passed : (key : List ℕ) (r : Record) (l : List Record) → sameKey (r .key) ke
 unfolding firstWithKey
 passed key r l e = rw (e, firstWithKey)
 
-module _ (p key s : List ℕ) (t : Table) (i : ℕ) where
-  module _ (v : RecordView) (ev : v ≡ getD (t .views) i zeroView) (hc : i < t .count) (hv : i < length (t .views)) where
+module _ (p key s row : List ℕ) (i : ℕ) where
+  module _ (v : RecordView) (ev : v ≡ getD (viewsOf row) i zeroView) (inside : i < length row / 2) where
     pub still-found : sameKey ((recordAt s v) .key) key ≡ true
-        → isFoundStill p (firstWithKey key (drop i (recordsAt s t))) ≡ isStill p (recordAt s v)
-    still-found e = ap (λ (l : List Record). isFoundStill p (firstWithKey key l)) (seen-step s t i v ev hc hv) ∙ ap (isFoundStill p) (found key _ _ e)
+        → isFoundStill p (firstWithKey key (drop i (recordsIn s row))) ≡ isStill p (recordAt s v)
+    still-found e = ap (λ (l : List Record). isFoundStill p (firstWithKey key l)) (seen-step s row i v ev inside) ∙ ap (isFoundStill p) (found key _ _ e)
 
     pub still-passed : sameKey ((recordAt s v) .key) key ≡ false
-        → isFoundStill p (firstWithKey key (drop i (recordsAt s t))) ≡ isFoundStill p (firstWithKey key (drop (suc i) (recordsAt s t)))
-    still-passed e = ap (λ (l : List Record). isFoundStill p (firstWithKey key l)) (seen-step s t i v ev hc hv) ∙ ap (isFoundStill p) (passed key _ _ e)
+        → isFoundStill p (firstWithKey key (drop i (recordsIn s row))) ≡ isFoundStill p (firstWithKey key (drop (suc i) (recordsIn s row)))
+    still-passed e = ap (λ (l : List Record). isFoundStill p (firstWithKey key l)) (seen-step s row i v ev inside) ∙ ap (isFoundStill p) (passed key _ _ e)
 
-  pub still-end : min (t .count) (length (t .views)) ≤ i → isFoundStill p (firstWithKey key (drop i (recordsAt s t))) ≡ false
+  pub still-end : length row / 2 ≤ i → isFoundStill p (firstWithKey key (drop i (recordsIn s row))) ≡ false
   unfolding firstWithKey
   still-end past =
-      let short : length (recordsAt s t) ≤ i = rw (length-records s t) past in
-      rw (drop-of-length-le (recordsAt s t) short)
+      let short : length (recordsIn s row) ≤ i = rw (length-records s row) past in
+      rw (drop-of-length-le (recordsIn s row) short)
 
 -- ---- the freeze of one record
 
@@ -110,22 +109,22 @@ module _ (vault : List ℕ) (listed : List ℕ → Bool) (after : List Record) (
 
 -- ---- all records
 
-module _ (vault : List ℕ) (listed : List ℕ → Bool) (after : List Record) (s : List ℕ) (t : Table) (i : ℕ) where
-  module _ (v : RecordView) (ev : v ≡ getD (t .views) i zeroView) (hc : i < t .count) (hv : i < length (t .views)) where
+module _ (vault : List ℕ) (listed : List ℕ → Bool) (after : List Record) (s row : List ℕ) (i : ℕ) where
+  module _ (v : RecordView) (ev : v ≡ getD (viewsOf row) i zeroView) (inside : i < length row / 2) where
     pub frozen-passed : keepsFreeze vault listed after (recordAt s v) ≡ true
-        → allFrozen vault listed after (drop i (recordsAt s t)) ≡ allFrozen vault listed after (drop (suc i) (recordsAt s t))
+        → allFrozen vault listed after (drop i (recordsIn s row)) ≡ allFrozen vault listed after (drop (suc i) (recordsIn s row))
     unfolding allFrozen
-    frozen-passed e = rw (seen-step s t i v ev hc hv, e)
+    frozen-passed e = rw (seen-step s row i v ev inside, e)
 
-    pub frozen-broken : keepsFreeze vault listed after (recordAt s v) ≡ false → allFrozen vault listed after (drop i (recordsAt s t)) ≡ false
+    pub frozen-broken : keepsFreeze vault listed after (recordAt s v) ≡ false → allFrozen vault listed after (drop i (recordsIn s row)) ≡ false
     unfolding allFrozen
-    frozen-broken e = rw (seen-step s t i v ev hc hv, e)
+    frozen-broken e = rw (seen-step s row i v ev inside, e)
 
-  pub frozen-end : min (t .count) (length (t .views)) ≤ i → allFrozen vault listed after (drop i (recordsAt s t)) ≡ true
+  pub frozen-end : length row / 2 ≤ i → allFrozen vault listed after (drop i (recordsIn s row)) ≡ true
   unfolding allFrozen
   frozen-end past =
-      let short : length (recordsAt s t) ≤ i = rw (length-records s t) past in
-      rw (drop-of-length-le (recordsAt s t) short)
+      let short : length (recordsIn s row) ≤ i = rw (length-records s row) past in
+      rw (drop-of-length-le (recordsIn s row) short)
 
 -- the freeze asks only which mints are listed
 pub frozen-alike : (vault : List ℕ) (f g : List ℕ → Bool) → ((m : List ℕ) → f m ≡ g m) → (after l : List Record) → allFrozen vault f after l ≡ allFrozen vault g after l

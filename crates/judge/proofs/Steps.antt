@@ -4,11 +4,11 @@ use mathlib.Core.Path.{_≡_, refl, sym, ap, ap₂, _∙_}
 use mathlib.Core.Bool.{Bool, true, false, not, cond}
 use mathlib.Core.List.{List, [], _∷_, _++_, map}
 use mathlib.Core.Option.{Option, none, some}
-use Prim.Native.Nat.{ℕ, _+_, _-_, _<_, _≤_}
+use Prim.Native.Nat.{ℕ, _+_, _-_, _*_, _<_, _≤_}
 use native.Mathlib.Omega.{arith}
 use borrow.Author.Tests.{eq-eqb, ne-eqb}
 use lib.Dec.{lit<}
-use lib.ListN.{length, length-append, length-map}
+use lib.ListN.{length, take, length-append, length-map}
 use Rattle.answer.specs.declared.Answer.{Answer}
 use Rattle.answer.specs.Numbers.{answer, accepted, accepts, firstRefusal, refuseIf, badTable, badRegion, sessionTokenAuthorityChanged}
 use Rattle.answer.specs.Refusable.{Refusable, given, refused}
@@ -31,9 +31,8 @@ use Rattle.compact.proofs.Places.{entries-held}
 use Rattle.compact.proofs.Reading.{reading-of, outcome}
 use Rattle.account.specs.declared.Places.{Places}
 use Rattle.account.specs.Table.{Record, cutTable}
-use Rattle.account.specs.Views.{recordsAt, tableOf, placesOf, tableIn}
-use Rattle.account.proofs.Views.{records-of-table}
-use Rattle.account.proofs.InRow.{records-of-row}
+use Rattle.account.specs.Views.{recordsIn, placesOf}
+use Rattle.account.proofs.Views.{records-of-places}
 use Rattle.limit.specs.declared.Amounts.{Amounts}
 use Rattle.limit.specs.Limit.{Charge, classAnswer, settled}
 use Rattle.limit.specs.Views.{charges, chargesAt, settledViews, settledAt}
@@ -145,18 +144,18 @@ read-answer s = go (decode s) refl
     go none e = ap (λ (r : ReadList). r .answer) (reading-of s none e)
     go (some d) e = ap (λ (r : ReadList). r .answer) (reading-of s (some d) e)
 
-pub records-before : (call : Call) (p : Places) → p ≡ placesOf (tableOf (cutTable (call .before))) → recordsAt (call .before) (tableIn (p .list) (p .count)) ≡ recordsBefore call
+pub records-before : (call : Call) (p : Places) (row : List ℕ) → p ≡ placesOf (cutTable (call .before)) → row ≡ take (2 * p .count) (p .list)
+    → recordsIn (call .before) row ≡ recordsBefore call
 unfolding recordsBefore
-records-before call p e =
-    ap (λ (q : Places). recordsAt (call .before) (tableIn (q .list) (q .count))) e ∙ records-of-row (call .before) _ ∙ records-of-table (call .before)
+records-before call p row e r = ap (recordsIn (call .before)) r ∙ records-of-places (call .before) p e
 
-pub records-after : (call : Call) (p : Places) → p ≡ placesOf (tableOf (cutTable (call .after))) → recordsAt (call .after) (tableIn (p .list) (p .count)) ≡ recordsAfter call
+pub records-after : (call : Call) (p : Places) (row : List ℕ) → p ≡ placesOf (cutTable (call .after)) → row ≡ take (2 * p .count) (p .list)
+    → recordsIn (call .after) row ≡ recordsAfter call
 unfolding recordsAfter
-records-after call p e =
-    ap (λ (q : Places). recordsAt (call .after) (tableIn (q .list) (q .count))) e ∙ records-of-row (call .after) _ ∙ records-of-table (call .after)
+records-after call p row e r = ap (recordsIn (call .after)) r ∙ records-of-places (call .after) p e
 
-pub table-answer : (x : Refusable (List Record)) → placesOf (tableOf x) .answer ≡ answerOf x
-unfolding placesOf tableOf
+pub table-answer : (x : Refusable (List Record)) → placesOf x .answer ≡ answerOf x
+unfolding placesOf
 table-answer (given l) = refl
 table-answer (refused r) = refl
 

@@ -16,7 +16,7 @@ ghost use Prim.Native.Nat.{_<_, _≤_};
 ghost use lib.Dec.{leb};
 ghost use lib.ListN.{length, getD};
 ghost use Rattle.account.specs.Tokens.{balance as balanceOf};
-ghost use Rattle.account.specs.Views.{recordsAt, tableIn};
+ghost use Rattle.account.specs.Views.{recordsIn};
 ghost use Rattle.action.specs.Views.{actionAt, actionsAt};
 ghost use Rattle.judge.specs.Judge.{decrease};
 ghost use Rattle.judge.specs.Views.{sharesMint, amountFrom, amountsOf};
@@ -24,18 +24,16 @@ ghost use Rattle.judge.specs.Views.{sharesMint, amountFrom, amountsOf};
 // How much the vault's balance of a mint went down.
 fn token_decrease(
     before: &[u8],
-    before_list: &[usize],
-    before_count: usize,
+    before_places: &[usize],
     after: &[u8],
-    after_list: &[usize],
-    after_count: usize,
+    after_places: &[usize],
     vault: &[u8],
     mint: &[u8],
 ) -> u64
-    ensures { λ r. ⌜ r ≡ decrease (balanceOf (now (vault .entry)) (now (mint .entry)) (recordsAt (now (before .entry)) (tableIn (now («before_list» .entry)) «before_count»))) (balanceOf (now (vault .entry)) (now (mint .entry)) (recordsAt (now (after .entry)) (tableIn (now («after_list» .entry)) «after_count»))) ⌝ }
+    ensures { λ r. ⌜ r ≡ decrease (balanceOf (now (vault .entry)) (now (mint .entry)) (recordsIn (now (before .entry)) (now («before_places» .entry)))) (balanceOf (now (vault .entry)) (now (mint .entry)) (recordsIn (now (after .entry)) (now («after_places» .entry)))) ⌝ }
 {
-    let had = balance(before, before_list, before_count, vault, mint);
-    let has = balance(after, after_list, after_count, vault, mint);
+    let had = balance(before, before_places, vault, mint);
+    let has = balance(after, after_places, vault, mint);
     floored_difference(had, has)
 }
 
@@ -43,25 +41,21 @@ fn amount_for(
     region: &[u8],
     view: ActionView,
     before: &[u8],
-    before_list: &[usize],
-    before_count: usize,
+    before_places: &[usize],
     after: &[u8],
-    after_list: &[usize],
-    after_count: usize,
+    after_places: &[usize],
     vault: &[u8],
     sol: u64,
     gross: u64,
 ) -> u64
-    ensures { λ r. ⌜ r ≡ amountFrom (now (vault .entry)) (recordsAt (now (before .entry)) (tableIn (now («before_list» .entry)) «before_count»)) (recordsAt (now (after .entry)) (tableIn (now («after_list» .entry)) «after_count»)) sol gross (actionAt (now (region .entry)) view) ⌝ }
+    ensures { λ r. ⌜ r ≡ amountFrom (now (vault .entry)) (recordsIn (now (before .entry)) (now («before_places» .entry))) (recordsIn (now (after .entry)) (now («after_places» .entry))) sol gross (actionAt (now (region .entry)) view) ⌝ }
 {
     if is_token(view.kind) {
         return token_decrease(
             before,
-            before_list,
-            before_count,
+            before_places,
             after,
-            after_list,
-            after_count,
+            after_places,
             vault,
             key_of(region, view),
         );
@@ -104,17 +98,15 @@ fn amount_known(
     region: &[u8],
     view: ActionView,
     before: &[u8],
-    before_list: &[usize],
-    before_count: usize,
+    before_places: &[usize],
     after: &[u8],
-    after_list: &[usize],
-    after_count: usize,
+    after_places: &[usize],
     vault: &[u8],
     sol: u64,
     gross: u64,
 ) -> u64
-    requires { ⌜ (i ≤ length (now known)) × (found < i → getD (now known) found 0 ≡ amountFrom (now vault) (recordsAt (now before) (tableIn (now «before_list») «before_count»)) (recordsAt (now after) (tableIn (now «after_list») «after_count»)) sol gross (actionAt (now region) view)) ⌝ }
-    ensures { λ r. ⌜ r ≡ amountFrom (now (vault .entry)) (recordsAt (now (before .entry)) (tableIn (now («before_list» .entry)) «before_count»)) (recordsAt (now (after .entry)) (tableIn (now («after_list» .entry)) «after_count»)) sol gross (actionAt (now (region .entry)) view) ⌝ }
+    requires { ⌜ (i ≤ length (now known)) × (found < i → getD (now known) found 0 ≡ amountFrom (now vault) (recordsIn (now before) (now «before_places»)) (recordsIn (now after) (now «after_places»)) sol gross (actionAt (now region) view)) ⌝ }
+    ensures { λ r. ⌜ r ≡ amountFrom (now (vault .entry)) (recordsIn (now (before .entry)) (now («before_places» .entry))) (recordsIn (now (after .entry)) (now («after_places» .entry))) sol gross (actionAt (now (region .entry)) view) ⌝ }
 {
     if found < i {
         return known[found];
@@ -123,11 +115,9 @@ fn amount_known(
         region,
         view,
         before,
-        before_list,
-        before_count,
+        before_places,
         after,
-        after_list,
-        after_count,
+        after_places,
         vault,
         sol,
         gross,
@@ -139,16 +129,14 @@ pub fn amounts(
     region: &[u8],
     parsed: Parsed,
     before: &[u8],
-    before_list: &[usize],
-    before_count: usize,
+    before_places: &[usize],
     after: &[u8],
-    after_list: &[usize],
-    after_count: usize,
+    after_places: &[usize],
     vault: &[u8],
     sol: u64,
     gross: u64,
 ) -> Amounts
-    ensures { λ r. ⌜ r ≡ amountsOf (map (amountFrom (now (vault .entry)) (recordsAt (now (before .entry)) (tableIn (now («before_list» .entry)) «before_count»)) (recordsAt (now (after .entry)) (tableIn (now («after_list» .entry)) «after_count»)) sol gross) (actionsAt (now (region .entry)) parsed)) ⌝ }
+    ensures { λ r. ⌜ r ≡ amountsOf (map (amountFrom (now (vault .entry)) (recordsIn (now (before .entry)) (now («before_places» .entry))) (recordsIn (now (after .entry)) (now («after_places» .entry))) sol gross) (actionsAt (now (region .entry)) parsed)) ⌝ }
 {
     let n = counted(parsed);
     let mut list = [0u64; MAX_ACTIONS];
@@ -168,11 +156,9 @@ pub fn amounts(
             region,
             view,
             before,
-            before_list,
-            before_count,
+            before_places,
             after,
-            after_list,
-            after_count,
+            after_places,
             vault,
             sol,
             gross,

@@ -2,6 +2,7 @@
 use crate::amounts::amounts;
 use crate::freeze::verify_token_authorities_unchanged;
 use crate::programs::evaluate_pre_actions;
+use account::fields::places_in;
 use account::parse::cut_places;
 use action::Parsed;
 use action::form::stored_actions;
@@ -21,7 +22,7 @@ ghost use mathlib.Core.Path.{_≡_};
 ghost use mathlib.Core.Bool.{cond};
 ghost use mathlib.Core.List.{map};
 ghost use Rattle.answer.specs.Numbers.{accepts};
-ghost use Rattle.account.specs.Views.{recordsAt, tableIn};
+ghost use Rattle.account.specs.Views.{recordsIn};
 ghost use Rattle.action.specs.Views.{actionsAt};
 ghost use Rattle.limit.specs.Views.{chargesAt, settledAt};
 ghost use Rattle.judge.specs.Judge.{judged, regionAfter};
@@ -31,26 +32,15 @@ fn frozen(
     region: &[u8],
     parsed: Parsed,
     before: &[u8],
-    before_list: &[usize],
-    before_count: usize,
+    before_places: &[usize],
     after: &[u8],
-    after_list: &[usize],
-    after_count: usize,
+    after_places: &[usize],
     vault: &[u8],
 ) -> bool
-    ensures { λ r. ⌜ r ≡ frozenFrom (now (vault .entry)) (recordsAt (now (before .entry)) (tableIn (now («before_list» .entry)) «before_count»)) (recordsAt (now (after .entry)) (tableIn (now («after_list» .entry)) «after_count»)) (actionsAt (now (region .entry)) parsed) ⌝ }
+    ensures { λ r. ⌜ r ≡ frozenFrom (now (vault .entry)) (recordsIn (now (before .entry)) (now («before_places» .entry))) (recordsIn (now (after .entry)) (now («after_places» .entry))) (actionsAt (now (region .entry)) parsed) ⌝ }
 {
     let mints = listed_mints(region, parsed);
-    verify_token_authorities_unchanged(
-        before,
-        before_list,
-        before_count,
-        after,
-        after_list,
-        after_count,
-        vault,
-        mints,
-    )
+    verify_token_authorities_unchanged(before, before_places, after, after_places, vault, mints)
 }
 
 // Steps 5 and 6: the programs and the freeze.
@@ -58,26 +48,16 @@ fn checks_answer(
     region: &[u8],
     parsed: Parsed,
     before: &[u8],
-    before_list: &[usize],
-    before_count: usize,
+    before_places: &[usize],
     after: &[u8],
-    after_list: &[usize],
-    after_count: usize,
+    after_places: &[usize],
     entries: Entries,
     vault: &[u8],
     slot: u64,
 ) -> Answer
-    ensures { λ r. ⌜ r ≡ checksFrom slot (now (vault .entry)) (recordsAt (now (before .entry)) (tableIn (now («before_list» .entry)) «before_count»)) (recordsAt (now (after .entry)) (tableIn (now («after_list» .entry)) «after_count»)) (programsIn entries) (actionsAt (now (region .entry)) parsed) ⌝ }
+    ensures { λ r. ⌜ r ≡ checksFrom slot (now (vault .entry)) (recordsIn (now (before .entry)) (now («before_places» .entry))) (recordsIn (now (after .entry)) (now («after_places» .entry))) (programsIn entries) (actionsAt (now (region .entry)) parsed) ⌝ }
 {
-    let programs = evaluate_pre_actions(
-        region,
-        parsed,
-        before,
-        before_list,
-        before_count,
-        entries,
-        slot,
-    );
+    let programs = evaluate_pre_actions(region, parsed, before, before_places, entries, slot);
     if !programs.accepts() {
         return programs;
     }
@@ -85,11 +65,9 @@ fn checks_answer(
         region,
         parsed,
         before,
-        before_list,
-        before_count,
+        before_places,
         after,
-        after_list,
-        after_count,
+        after_places,
         vault,
     ) {
         return Answer::of(SESSION_TOKEN_AUTHORITY_CHANGED);
@@ -113,18 +91,16 @@ fn judge_cut(
     region: &mut [u8],
     parsed: Parsed,
     before: &[u8],
-    before_list: &[usize],
-    before_count: usize,
+    before_places: &[usize],
     after: &[u8],
-    after_list: &[usize],
-    after_count: usize,
+    after_places: &[usize],
     entries: Entries,
     vault: &[u8],
     slot: u64,
     sol: u64,
     gross: u64,
 ) -> Answer
-    ensures { λ r. ⌜ (r ≡ rulesFrom slot (now (vault .entry)) (recordsAt (now (before .entry)) (tableIn (now («before_list» .entry)) «before_count»)) (recordsAt (now (after .entry)) (tableIn (now («after_list» .entry)) «after_count»)) (programsIn entries) (chargesAt (now (region .entry)) parsed (amountsOf (map (amountFrom (now (vault .entry)) (recordsAt (now (before .entry)) (tableIn (now («before_list» .entry)) «before_count»)) (recordsAt (now (after .entry)) (tableIn (now («after_list» .entry)) «after_count»)) sol gross) (actionsAt (now (region .entry)) parsed)))) (actionsAt (now (region .entry)) parsed)) × (now (region .exit) ≡ cond (accepts r) (settledAt slot parsed (amountsOf (map (amountFrom (now (vault .entry)) (recordsAt (now (before .entry)) (tableIn (now («before_list» .entry)) «before_count»)) (recordsAt (now (after .entry)) (tableIn (now («after_list» .entry)) «after_count»)) sol gross) (actionsAt (now (region .entry)) parsed))) (now (region .entry))) (now (region .entry))) ⌝ }
+    ensures { λ r. ⌜ (r ≡ rulesFrom slot (now (vault .entry)) (recordsIn (now (before .entry)) (now («before_places» .entry))) (recordsIn (now (after .entry)) (now («after_places» .entry))) (programsIn entries) (chargesAt (now (region .entry)) parsed (amountsOf (map (amountFrom (now (vault .entry)) (recordsIn (now (before .entry)) (now («before_places» .entry))) (recordsIn (now (after .entry)) (now («after_places» .entry))) sol gross) (actionsAt (now (region .entry)) parsed)))) (actionsAt (now (region .entry)) parsed)) × (now (region .exit) ≡ cond (accepts r) (settledAt slot parsed (amountsOf (map (amountFrom (now (vault .entry)) (recordsIn (now (before .entry)) (now («before_places» .entry))) (recordsIn (now (after .entry)) (now («after_places» .entry))) sol gross) (actionsAt (now (region .entry)) parsed))) (now (region .entry))) (now (region .entry))) ⌝ }
 {
     if parsed.count == 0 {
         return Answer::of(ACCEPTED);
@@ -133,11 +109,9 @@ fn judge_cut(
         region,
         parsed,
         before,
-        before_list,
-        before_count,
+        before_places,
         after,
-        after_list,
-        after_count,
+        after_places,
         entries,
         vault,
         slot,
@@ -149,11 +123,9 @@ fn judge_cut(
         region,
         parsed,
         before,
-        before_list,
-        before_count,
+        before_places,
         after,
-        after_list,
-        after_count,
+        after_places,
         vault,
         sol,
         gross,
@@ -204,11 +176,9 @@ pub fn judge(
         region,
         parsed,
         before,
-        &before_cut.list,
-        before_cut.count,
+        places_in(&before_cut.list, before_cut.count),
         after,
-        &after_cut.list,
-        after_cut.count,
+        places_in(&after_cut.list, after_cut.count),
         read.entries,
         vault,
         slot,

@@ -1,6 +1,5 @@
 // Step 6: the authorities of the vault's token accounts of listed mints stay as they were.
 use account::RecordView;
-use account::fields::counted_in;
 use account::fields::record_key;
 use account::fields::record_payload;
 use account::fields::view_in;
@@ -16,7 +15,7 @@ ghost use mathlib.Core.List.{List};
 ghost use Prim.Native.Nat.{ℕ};
 ghost use lib.ListN.{take, drop};
 ghost use Rattle.key.specs.Key.{sameKey, isAmong, keysIn};
-ghost use Rattle.account.specs.Views.{recordAt, recordsAt, tableIn};
+ghost use Rattle.account.specs.Views.{recordAt, recordsIn};
 ghost use Rattle.judge.specs.Freeze.{firstWithKey, samePart, sameAuthorities, isStill, isFoundStill, keepsFreeze, allFrozen};
 
 const OWNER_OFFSET: usize = 32;
@@ -69,13 +68,13 @@ fn is_still(payload: &[u8], table: &[u8], view: RecordView) -> bool
 }
 
 // Whether the first record with the key is still that account.
-fn still_there(payload: &[u8], key: &[u8], table: &[u8], list: &[usize], count: usize) -> bool
-    ensures { λ r. ⌜ r ≡ isFoundStill (now (payload .entry)) (firstWithKey (now (key .entry)) (recordsAt (now (table .entry)) (tableIn (now (list .entry)) count))) ⌝ }
+fn still_there(payload: &[u8], key: &[u8], table: &[u8], places: &[usize]) -> bool
+    ensures { λ r. ⌜ r ≡ isFoundStill (now (payload .entry)) (firstWithKey (now (key .entry)) (recordsIn (now (table .entry)) (now (places .entry)))) ⌝ }
 {
-    let n = counted_in(list, count);
+    let n = places.len() / 2;
     let mut i = 0;
     while i < n {
-        let view = view_in(list, i);
+        let view = view_in(places, i);
         if key::same_key(record_key(table, view), key) {
             return is_still(payload, table, view);
         }
@@ -88,12 +87,11 @@ fn keeps_freeze(
     before: &[u8],
     view: RecordView,
     after: &[u8],
-    list: &[usize],
-    count: usize,
+    places: &[usize],
     vault: &[u8],
     mint: &[u8],
 ) -> bool
-    ensures { λ r. ⌜ r ≡ keepsFreeze (now (vault .entry)) (sameKey (now (mint .entry))) (recordsAt (now (after .entry)) (tableIn (now (list .entry)) count)) (recordAt (now (before .entry)) view) ⌝ }
+    ensures { λ r. ⌜ r ≡ keepsFreeze (now (vault .entry)) (sameKey (now (mint .entry))) (recordsIn (now (after .entry)) (now (places .entry))) (recordAt (now (before .entry)) view) ⌝ }
 {
     if !key::same_key(mint, mint_of(before, view)) {
         return true;
@@ -102,27 +100,25 @@ fn keeps_freeze(
         return true;
     }
     let payload = record_payload(before, view);
-    still_there(payload, record_key(before, view), after, list, count)
+    still_there(payload, record_key(before, view), after, places)
 }
 
 // Whether each counted account of the table before that has the mint is still there after.
 fn mint_frozen(
     before: &[u8],
-    before_list: &[usize],
-    before_count: usize,
+    before_places: &[usize],
     after: &[u8],
-    after_list: &[usize],
-    after_count: usize,
+    after_places: &[usize],
     vault: &[u8],
     mint: &[u8],
 ) -> bool
-    ensures { λ r. ⌜ r ≡ allFrozen (now (vault .entry)) (sameKey (now (mint .entry))) (recordsAt (now (after .entry)) (tableIn (now («after_list» .entry)) «after_count»)) (recordsAt (now (before .entry)) (tableIn (now («before_list» .entry)) «before_count»)) ⌝ }
+    ensures { λ r. ⌜ r ≡ allFrozen (now (vault .entry)) (sameKey (now (mint .entry))) (recordsIn (now (after .entry)) (now («after_places» .entry))) (recordsIn (now (before .entry)) (now («before_places» .entry))) ⌝ }
 {
-    let n = counted_in(before_list, before_count);
+    let n = before_places.len() / 2;
     let mut i = 0;
     while i < n {
-        let view = view_in(before_list, i);
-        if !keeps_freeze(before, view, after, after_list, after_count, vault, mint) {
+        let view = view_in(before_places, i);
+        if !keeps_freeze(before, view, after, after_places, vault, mint) {
             return false;
         }
         i += 1;
@@ -132,42 +128,29 @@ fn mint_frozen(
 
 fn key_frozen(
     before: &[u8],
-    before_list: &[usize],
-    before_count: usize,
+    before_places: &[usize],
     after: &[u8],
-    after_list: &[usize],
-    after_count: usize,
+    after_places: &[usize],
     vault: &[u8],
     key: Key,
 ) -> bool
-    ensures { λ r. ⌜ r ≡ allFrozen (now (vault .entry)) (sameKey (key .bytes)) (recordsAt (now (after .entry)) (tableIn (now («after_list» .entry)) «after_count»)) (recordsAt (now (before .entry)) (tableIn (now («before_list» .entry)) «before_count»)) ⌝ }
+    ensures { λ r. ⌜ r ≡ allFrozen (now (vault .entry)) (sameKey (key .bytes)) (recordsIn (now (after .entry)) (now («after_places» .entry))) (recordsIn (now (before .entry)) (now («before_places» .entry))) ⌝ }
 {
     let mint = key.bytes;
-    mint_frozen(
-        before,
-        before_list,
-        before_count,
-        after,
-        after_list,
-        after_count,
-        vault,
-        &mint,
-    )
+    mint_frozen(before, before_places, after, after_places, vault, &mint)
 }
 
 // Whether each counted account of the table before whose mint is listed is still there after, mint by
 // mint: the list is not handed on.
 pub fn verify_token_authorities_unchanged(
     before: &[u8],
-    before_list: &[usize],
-    before_count: usize,
+    before_places: &[usize],
     after: &[u8],
-    after_list: &[usize],
-    after_count: usize,
+    after_places: &[usize],
     vault: &[u8],
     mints: Keys,
 ) -> bool
-    ensures { λ r. ⌜ r ≡ allFrozen (now (vault .entry)) (λ (mint : List ℕ). isAmong mint (keysIn mints)) (recordsAt (now (after .entry)) (tableIn (now («after_list» .entry)) «after_count»)) (recordsAt (now (before .entry)) (tableIn (now («before_list» .entry)) «before_count»)) ⌝ }
+    ensures { λ r. ⌜ r ≡ allFrozen (now (vault .entry)) (λ (mint : List ℕ). isAmong mint (keysIn mints)) (recordsIn (now (after .entry)) (now («after_places» .entry))) (recordsIn (now (before .entry)) (now («before_places» .entry))) ⌝ }
 {
     let count = mints.count;
     let mut i = 0;
@@ -176,16 +159,7 @@ pub fn verify_token_authorities_unchanged(
             return true;
         }
         let k = mints.list[i];
-        if !key_frozen(
-            before,
-            before_list,
-            before_count,
-            after,
-            after_list,
-            after_count,
-            vault,
-            k,
-        ) {
+        if !key_frozen(before, before_places, after, after_places, vault, k) {
             return false;
         }
         i += 1;

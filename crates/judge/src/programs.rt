@@ -1,5 +1,4 @@
 // Step 5: each instruction's program against the lists.
-use account::fields::counted_in;
 use account::fields::record_key;
 use account::fields::view_in;
 use action::ActionView;
@@ -26,7 +25,7 @@ ghost use Rattle.action.specs.Region.{expired, programWhitelist};
 ghost use Rattle.action.specs.Creation.{howOften};
 ghost use Rattle.action.specs.Fields.{keyOf};
 ghost use Rattle.action.specs.Views.{actionAt, actionsAt, kindsIn};
-ghost use Rattle.account.specs.Views.{recordsAt, tableIn};
+ghost use Rattle.account.specs.Views.{recordsIn};
 ghost use Rattle.judge.specs.Programs.{inLiveList, listsAnswer, programAnswer, programsAnswer};
 ghost use Rattle.judge.specs.Views.{programsIn};
 
@@ -83,22 +82,21 @@ fn program_answer(
     region: &[u8],
     parsed: Parsed,
     table: &[u8],
-    list: &[usize],
-    count: usize,
+    places: &[usize],
     slot: u64,
     program: u8,
 ) -> Answer
-    ensures { λ r. ⌜ r ≡ programAnswer slot (actionsAt (now (region .entry)) parsed) (recordsAt (now (table .entry)) (tableIn (now (list .entry)) count)) program ⌝ }
+    ensures { λ r. ⌜ r ≡ programAnswer slot (actionsAt (now (region .entry)) parsed) (recordsIn (now (table .entry)) (now (places .entry))) program ⌝ }
 {
     let index = program as usize;
-    if counted_in(list, count) <= index {
+    if places.len() / 2 <= index {
         return Answer::of(INVALID_INSTRUCTION_DATA);
     }
     lists_answer(
         region,
         parsed,
         slot,
-        record_key(table, view_in(list, index)),
+        record_key(table, view_in(places, index)),
     )
 }
 
@@ -118,18 +116,17 @@ pub fn evaluate_pre_actions(
     region: &[u8],
     parsed: Parsed,
     table: &[u8],
-    list: &[usize],
-    count: usize,
+    places: &[usize],
     entries: Entries,
     slot: u64,
 ) -> Answer
-    ensures { λ r. ⌜ r ≡ programsAnswer slot (actionsAt (now (region .entry)) parsed) (recordsAt (now (table .entry)) (tableIn (now (list .entry)) count)) (programsIn entries) ⌝ }
+    ensures { λ r. ⌜ r ≡ programsAnswer slot (actionsAt (now (region .entry)) parsed) (recordsIn (now (table .entry)) (now (places .entry))) (programsIn entries) ⌝ }
 {
     let n = entries_counted(entries);
     let mut i = 0;
     while i < n {
         let entry = entries.list[i];
-        let answer = program_answer(region, parsed, table, list, count, slot, entry.program);
+        let answer = program_answer(region, parsed, table, places, slot, entry.program);
         if !answer.accepts() {
             return answer;
         }

@@ -1,12 +1,12 @@
 -- `account::Places::refused` meets its contract: each of its numbers is 0.
 -- Assumes nothing.
 use mathlib.Core.Path.{refl}
-use Rattle.account.specs.Views.{tableOf, placesOf, rowOf}
+use Rattle.account.specs.Views.{placesOf}
 use Rattle.account.proofs.Places.refused.Statement.{statement}
 use Rattle.account.proofs.Places.refused.Tie as tie
 
 returns : tie.Need-returns
-unfolding placesOf tableOf rowOf
+unfolding placesOf
 returns c = refl
 
 pub refused-spec : {M : Type 1} → statement M

@@ -8,8 +8,8 @@ use Rattle.account.proofs.Lookups.{resolve-malformed, resolve-sound}
 use Rattle.account.proofs.indexes.resolve.Statement.{statement}
 use Rattle.account.proofs.indexes.resolve.Tie as tie
 
-cut-table-requires : tie.Need-cut-table-requires
-cut-table-requires c κs = search needs
+cut-places-requires : tie.Need-cut-places-requires
+cut-places-requires c κs = search needs
 
 accepts-requires : tie.Need-accepts-requires
 accepts-requires c κs = search needs
@@ -17,7 +17,7 @@ accepts-requires c κs = search needs
 returns : tie.Need-returns
 returns c =
     let accepted = c .before .before .accepts in
-    sym (resolve-malformed _ _ _ _ (c .before .before .before .cut-table .ensures) (sym (accepted .ensures) ∙ not-true _ (c .before .if1 .taken)))
+    sym (resolve-malformed _ _ _ _ (c .before .before .before .cut-places .ensures) (sym (accepted .ensures) ∙ not-true _ (c .before .if1 .taken)))
 
 is-resolvable-requires : tie.Need-is-resolvable-requires
 is-resolvable-requires c κs = search needs
@@ -29,7 +29,7 @@ returns-2 : tie.Need-returns-2
 returns-2 c =
     let decided = c .before .before .is-resolvable in
     let tested = c .before .before .before in
-    let whole = tested .before .before .cut-table .ensures in
+    let whole = tested .before .before .cut-places .ensures in
     let sound = sym (tested .before .accepts .ensures) ∙ not-false _ (tested .if1 .left) in
     c .of .ensures ∙ sym (resolve-sound _ _ _ _ whole false sound (sym (decided .ensures) ∙ not-true _ (c .before .if2 .taken)))
 
@@ -40,7 +40,7 @@ returns-3 : tie.Need-returns-3
 returns-3 c =
     let decided = c .before .before .is-resolvable in
     let tested = c .before .before .before in
-    let whole = tested .before .before .cut-table .ensures in
+    let whole = tested .before .before .cut-places .ensures in
     let sound = sym (tested .before .accepts .ensures) ∙ not-false _ (tested .if1 .left) in
     c .of2 .ensures ∙ sym (resolve-sound _ _ _ _ whole true sound (sym (decided .ensures) ∙ not-false _ (c .before .if2 .left)))
 
@@ -48,7 +48,7 @@ pub resolve-spec : {M : Type 1} → statement M
 resolve-spec =
     tie.close
     (tie.spec
-    cut-table-requires
+    cut-places-requires
     accepts-requires
     returns
     is-resolvable-requires

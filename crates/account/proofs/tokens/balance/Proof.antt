@@ -1,34 +1,29 @@
 -- `account::tokens::balance` meets its contract. The loop's invariant: the total is the balance from record `i` on.
 -- Assumes nothing.
-use Prim.Native.Nat.{_-_, _≤_, min}
+use Prim.Native.Nat.{_-_, _/_, _≤_}
 use mathlib.Core.Path.{_≡_, sym}
 use native.Mathlib.Omega.{arith}
 use lib.ListN.{length, drop}
 use Rattle.account.specs.Tokens.{balance}
-use Rattle.account.specs.Views.{recordsAt, viewsOf, tableIn}
+use Rattle.account.specs.Views.{recordsIn}
 use Rattle.account.proofs.Balances.{balance-none, balance-before}
 use Rattle.account.proofs.Views.{length-records}
 use Rattle.account.proofs.tokens.balance.Statement.{statement}
 use Rattle.account.proofs.tokens.balance.Tie as tie
 
 abbrev Inv-loop : tie.InvT-loop
-Inv-loop table list count vault mint total₀ i₀ total i =
-    (i ≤ min count (length (viewsOf list))) × (total ≡ balance vault mint (drop i (recordsAt table (tableIn list count))))
+Inv-loop table places vault mint total₀ i₀ total i =
+    (i ≤ length places / 2) × (total ≡ balance vault mint (drop i (recordsIn table places)))
 
 abbrev μ-loop : tie.MeasureT-loop
-μ-loop table list count vault mint total₀ i₀ total i = i
-
-counted-in-requires : tie.Need-counted-in-requires Inv-loop μ-loop
-counted-in-requires c κs = tt
+μ-loop table places vault mint total₀ i₀ total i = i
 
 loop-holds : tie.Need-loop-holds Inv-loop μ-loop
 loop-holds c =
-    let start = c .before .before .before .before .before in
-    let s = start .args .table .now in
-    let list = start .args .list .now in
-    let t = tableIn list (start .args .count) in
-    let past : length (recordsAt s t) ≤ c .counted-in .result = rw (length-records s t, c .counted-in .ensures) (omega arith) in
-    (rw (c .counted-in .ensures) (omega arith), sym (balance-none _ _ (recordsAt s t) (c .counted-in .result) past))
+    let start = c .before .before .before .before in
+    let places = start .args .places .now in
+    let long = length-records (start .args .table .now) places in
+    (omega arith, sym (balance-none _ _ (recordsIn (start .args .table .now) places) (length places / 2) (omega arith)))
 
 sub-i : tie.Need-sub-i Inv-loop μ-loop
 sub-i c = omega arith
@@ -45,12 +40,9 @@ loop-less c = omega arith
 loop-again : tie.Need-loop-again Inv-loop μ-loop
 loop-again c =
     let at-loop = c .before .before .before in
-    let start = at-loop .before .before .before .before .before .before in
-    let i = at-loop .loop .i in
-    let list = start .args .list .now in
-    let t = tableIn list (start .args .count) in
-    let still : i - 1 ≤ min (start .args .count) (length (viewsOf list)) = omega arith in
-    let step = balance-before (start .args .vault .now) (start .args .mint .now) (start .args .table .now) t i _ (omega arith) (omega arith) (omega arith) in
+    let start = at-loop .before .before .before .before .before .args in
+    let still : at-loop .loop .i - 1 ≤ length (start .places .now) / 2 = omega arith in
+    let step = balance-before (start .vault .now) (start .mint .now) (start .table .now) (start .places .now) (at-loop .loop .i) _ (omega arith) (omega arith) in
     (still, rw (c .added .ensures, at-loop .loop .inv .1, c .before .view-in .ensures) (sym step))
 
 returns : tie.Need-returns Inv-loop μ-loop
@@ -65,7 +57,6 @@ balance-spec =
     (tie.spec
     Inv-loop
     μ-loop
-    counted-in-requires
     loop-holds
     sub-i
     view-in-requires

@@ -8,7 +8,7 @@ use native.Mathlib.Numerals.{add-one}
 use native.Mathlib.Omega.{arith}
 use borrow.Author.Tests.{not-true, not-false}
 use lib.ListN.{length, getD, length-map}
-use Rattle.account.specs.Views.{recordsAt, tableIn}
+use Rattle.account.specs.Views.{recordsIn}
 use Rattle.action.specs.Views.{actionsAt, zeroView}
 use Rattle.action.proofs.Views.{length-actions}
 use Rattle.judge.specs.Views.{amountFrom}
@@ -17,17 +17,17 @@ use Rattle.judge.proofs.amounts.amounts.Statement.{statement}
 use Rattle.judge.proofs.amounts.amounts.Tie as tie
 
 abbrev Inv-loop2 : tie.InvT-loop2
-Inv-loop2 region before before-list before-count after after-list after-count vault sol gross parsed n list i view found₀ other₀ found other = (found ≤ i) × (other ≡ getD (parsed .views) found zeroView)
+Inv-loop2 region before before-places after after-places vault sol gross parsed n list i view found₀ other₀ found other = (found ≤ i) × (other ≡ getD (parsed .views) found zeroView)
 
 abbrev μ-loop2 : tie.MeasureT-loop2
-μ-loop2 region before before-list before-count after after-list after-count vault sol gross parsed n list i view found₀ other₀ found other = i - found
+μ-loop2 region before before-places after after-places vault sol gross parsed n list i view found₀ other₀ found other = i - found
 
 abbrev Inv-loop : tie.InvT-loop
-Inv-loop region before before-list before-count after after-list after-count vault sol gross parsed n list₀ i₀ list i =
-    (i ≤ n) × (n ≡ min (parsed .count) 16) × (list ≡ laid (amountFrom vault (recordsAt before (tableIn before-list before-count)) (recordsAt after (tableIn after-list after-count)) sol gross) region parsed i)
+Inv-loop region before before-places after after-places vault sol gross parsed n list₀ i₀ list i =
+    (i ≤ n) × (n ≡ min (parsed .count) 16) × (list ≡ laid (amountFrom vault (recordsIn before before-places) (recordsIn after after-places) sol gross) region parsed i)
 
 abbrev μ-loop : tie.MeasureT-loop
-μ-loop region before before-list before-count after after-list after-count vault sol gross parsed n list₀ i₀ list i = n - i
+μ-loop region before before-places after after-places vault sol gross parsed n list₀ i₀ list i = n - i
 
 counted-requires : tie.Need-counted-requires Inv-loop2 μ-loop2 Inv-loop μ-loop
 counted-requires c κs = tt

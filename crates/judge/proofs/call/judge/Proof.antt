@@ -169,6 +169,12 @@ returns-5 c =
 floored-difference-requires : tie.Need-floored-difference-requires
 floored-difference-requires c κs = search needs
 
+places-in-requires : tie.Need-places-in-requires
+places-in-requires c κs = search needs
+
+places-in-requires-2 : tie.Need-places-in-requires-2
+places-in-requires-2 c κs = search needs
+
 judge-cut-requires : tie.Need-judge-cut-requires
 judge-cut-requires c κs = search needs
 
@@ -178,7 +184,10 @@ same-length-2 c = search needs
 returns-6 : tie.Need-returns-6
 returns-6 c =
     let judged = c .before .before in
-    let five = judged .before .before .before .before .before .before .before .before .before in
+    let row-after = judged .before in
+    let row-before = row-after .before .before .before .before in
+    let difference = row-before .before .before .before .before .before in
+    let five = difference .before in
     let four = four-of five in
     let three = three-of four in
     let two = two-of three in
@@ -190,8 +199,9 @@ returns-6 c =
     let programs = ap (λ (p : ReadList). programsIn (p .entries)) (four .before .before .parse-compact-instructions .ensures) ∙ programs-read _ in
     judged-cut (region-of start) call (vault-is one) (before-sound two) (after-sound three) (read-sound four) (region-sound five) bytes _ _ _ _ _ _ _
     (five .before .before .stored-actions .ensures)
-    (records-before call _ (two .before .before .before .cut-places .ensures)) (records-after call _ (three .before .before .before .cut-places2 .ensures)) programs
-    (judged .before .before .before .before .before .before .before .before .floored-difference .ensures ∙ decreased _ _ _ _ refl refl)
+    (records-before call _ _ (two .before .before .before .cut-places .ensures) (row-before .places-in .ensures))
+    (records-after call _ _ (three .before .before .before .cut-places2 .ensures) (row-after .places-in2 .ensures)) programs
+    (difference .floored-difference .ensures ∙ decreased _ _ _ _ refl refl)
     (judged .judge-cut .ensures .0) (judged .judge-cut .ensures .1)
 
 pub judge-spec : {M : Type 1} → statement M
@@ -214,6 +224,8 @@ judge-spec =
     same-length
     returns-5
     floored-difference-requires
+    places-in-requires
+    places-in-requires-2
     judge-cut-requires
     same-length-2
     returns-6)

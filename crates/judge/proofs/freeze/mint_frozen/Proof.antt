@@ -1,32 +1,29 @@
 -- `judge::freeze::mint_frozen` meets its contract. The loop's invariant: all are frozen where those from `i` on are.
 -- Assumes nothing.
-use Prim.Native.Nat.{_+_, _-_, _≤_, min}
+use Prim.Native.Nat.{_+_, _-_, _/_, _≤_}
 use mathlib.Core.Path.{_≡_, refl, sym, ap, _∙_}
 use native.Mathlib.Numerals.{add-one}
 use native.Mathlib.Omega.{arith}
 use lib.ListN.{length, drop}
 use borrow.Author.Tests.{not-true, not-false}
 use Rattle.key.specs.Key.{sameKey}
-use Rattle.account.specs.Views.{recordsAt, viewsOf, tableIn}
+use Rattle.account.specs.Views.{recordsIn}
 use Rattle.judge.specs.Freeze.{allFrozen}
 use Rattle.judge.proofs.Freezing.{frozen-passed, frozen-broken, frozen-end}
 use Rattle.judge.proofs.freeze.mint_frozen.Statement.{statement}
 use Rattle.judge.proofs.freeze.mint_frozen.Tie as tie
 
 abbrev Inv-loop : tie.InvT-loop
-Inv-loop before before-list before-count after after-list after-count vault mint n i₀ i =
-    (i ≤ n) × (n ≡ min before-count (length (viewsOf before-list)))
-    × (allFrozen vault (sameKey mint) (recordsAt after (tableIn after-list after-count)) (drop i (recordsAt before (tableIn before-list before-count)))
-    ≡ allFrozen vault (sameKey mint) (recordsAt after (tableIn after-list after-count)) (recordsAt before (tableIn before-list before-count)))
+Inv-loop before before-places after after-places vault mint n i₀ i =
+    (i ≤ n) × (n ≡ length before-places / 2)
+    × (allFrozen vault (sameKey mint) (recordsIn after after-places) (drop i (recordsIn before before-places))
+    ≡ allFrozen vault (sameKey mint) (recordsIn after after-places) (recordsIn before before-places))
 
 abbrev μ-loop : tie.MeasureT-loop
-μ-loop before before-list before-count after after-list after-count vault mint n i₀ i = n - i
-
-counted-in-requires : tie.Need-counted-in-requires Inv-loop μ-loop
-counted-in-requires c κs = tt
+μ-loop before before-places after after-places vault mint n i₀ i = n - i
 
 loop-holds : tie.Need-loop-holds Inv-loop μ-loop
-loop-holds c = (omega arith, c .counted-in .ensures, refl)
+loop-holds c = (omega arith, refl, refl)
 
 view-in-requires : tie.Need-view-in-requires Inv-loop μ-loop
 view-in-requires c κs = tt
@@ -37,11 +34,11 @@ keeps-freeze-requires c κs = tt
 returns : tie.Need-returns Inv-loop μ-loop
 returns c =
     let at-loop = c .before .before .before .before in
-    let start = at-loop .before .before .before .before .before .before .before .before in
-    let cut = tableIn (start .args .before-list .now) (start .args .before-count) in
+    let start = at-loop .before .before .before .before .before .before .before in
+    let row = start .args .before-places .now in
     sym
     (sym (at-loop .loop .inv .2)
-    ∙ frozen-broken _ _ _ _ cut (at-loop .loop .i) _ (c .before .before .view-in .ensures) (omega arith) (omega arith) (sym (c .before .keeps-freeze .ensures) ∙ not-true _ (c .if1 .taken)))
+    ∙ frozen-broken _ _ _ _ row (at-loop .loop .i) _ (c .before .before .view-in .ensures) (omega arith) (sym (c .before .keeps-freeze .ensures) ∙ not-true _ (c .if1 .taken)))
 
 add-i : tie.Need-add-i Inv-loop μ-loop
 add-i c = omega arith
@@ -53,21 +50,21 @@ loop-again : tie.Need-loop-again Inv-loop μ-loop
 loop-again c =
     let at-loop = c .before .before .before .before in
     let i = at-loop .loop .i in
-    let start = at-loop .before .before .before .before .before .before .before .before in
-    let cut = tableIn (start .args .before-list .now) (start .args .before-count) in (
+    let start = at-loop .before .before .before .before .before .before .before in
+    let row = start .args .before-places .now in (
       omega arith,
       at-loop .loop .inv .1,
       rw (add-one i)
-          (sym (frozen-passed _ _ _ _ cut i _ (c .before .before .view-in .ensures) (omega arith) (omega arith) (sym (c .before .keeps-freeze .ensures) ∙ not-false _ (c .if1 .left)))
+          (sym (frozen-passed _ _ _ _ row i _ (c .before .before .view-in .ensures) (omega arith) (sym (c .before .keeps-freeze .ensures) ∙ not-false _ (c .if1 .left)))
           ∙ at-loop .loop .inv .2),
     )
 
 returns-2 : tie.Need-returns-2 Inv-loop μ-loop
 returns-2 c =
     let at-loop = c .before in
-    let start = at-loop .before .before .before .before .before .before .before .before in
-    let cut = tableIn (start .args .before-list .now) (start .args .before-count) in
-    sym (sym (at-loop .loop .inv .2) ∙ frozen-end _ _ _ _ cut (at-loop .loop .i) (omega arith))
+    let start = at-loop .before .before .before .before .before .before .before in
+    let row = start .args .before-places .now in
+    sym (sym (at-loop .loop .inv .2) ∙ frozen-end _ _ _ _ row (at-loop .loop .i) (omega arith))
 
 pub mint-frozen-spec : {M : Type 1} → statement M
 mint-frozen-spec =
@@ -75,7 +72,6 @@ mint-frozen-spec =
     (tie.spec
     Inv-loop
     μ-loop
-    counted-in-requires
     loop-holds
     view-in-requires
     keeps-freeze-requires

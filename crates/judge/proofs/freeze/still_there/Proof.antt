@@ -1,31 +1,28 @@
 -- `judge::freeze::still_there` meets its contract. The loop's invariant: from `i` on the first record with the key is the first of all.
 -- Assumes nothing.
-use Prim.Native.Nat.{ℕ, _+_, _-_, _≤_, min}
+use Prim.Native.Nat.{ℕ, _+_, _-_, _/_, _≤_}
 use mathlib.Core.Path.{_≡_, refl, sym, ap, _∙_}
 use native.Mathlib.Numerals.{add-one}
 use native.Mathlib.Omega.{arith}
 use mathlib.Core.List.{List}
 use lib.ListN.{length, drop}
 use Rattle.key.specs.Key.{sameKey}
-use Rattle.account.specs.Views.{recordsAt, viewsOf, tableIn}
+use Rattle.account.specs.Views.{recordsIn}
 use Rattle.judge.specs.Freeze.{isFoundStill, firstWithKey}
 use Rattle.judge.proofs.Freezing.{still-found, still-passed, still-end}
 use Rattle.judge.proofs.freeze.still_there.Statement.{statement}
 use Rattle.judge.proofs.freeze.still_there.Tie as tie
 
 abbrev Inv-loop : tie.InvT-loop
-Inv-loop payload key table list count n i₀ i =
-    (i ≤ n) × (n ≡ min count (length (viewsOf list)))
-    × (isFoundStill payload (firstWithKey key (drop i (recordsAt table (tableIn list count)))) ≡ isFoundStill payload (firstWithKey key (recordsAt table (tableIn list count))))
+Inv-loop payload key table places n i₀ i =
+    (i ≤ n) × (n ≡ length places / 2)
+    × (isFoundStill payload (firstWithKey key (drop i (recordsIn table places))) ≡ isFoundStill payload (firstWithKey key (recordsIn table places)))
 
 abbrev μ-loop : tie.MeasureT-loop
-μ-loop payload key table list count n i₀ i = n - i
-
-counted-in-requires : tie.Need-counted-in-requires Inv-loop μ-loop
-counted-in-requires c κs = tt
+μ-loop payload key table places n i₀ i = n - i
 
 loop-holds : tie.Need-loop-holds Inv-loop μ-loop
-loop-holds c = (omega arith, c .counted-in .ensures, refl)
+loop-holds c = (omega arith, refl, refl)
 
 view-in-requires : tie.Need-view-in-requires Inv-loop μ-loop
 view-in-requires c κs = tt
@@ -42,13 +39,13 @@ is-still-requires c κs = tt
 returns : tie.Need-returns Inv-loop μ-loop
 returns c =
     let at-loop = c .before .before .before .before .before .before in
-    let start = at-loop .before .before .before .before .before .before in
-    let cut = tableIn (start .args .list .now) (start .args .count) in
+    let start = at-loop .before .before .before .before .before in
+    let row = start .args .places .now in
     let test = c .before in
     let seen = test .before .before .before .view-in in
     sym
     (sym (at-loop .loop .inv .2)
-    ∙ still-found _ _ _ cut (at-loop .loop .i) _ (seen .ensures) (omega arith) (omega arith)
+    ∙ still-found _ _ _ row (at-loop .loop .i) _ (seen .ensures) (omega arith)
     (ap (λ (k : List ℕ). sameKey k (start .args .key .now)) (sym (test .before .before .record-key .ensures)) ∙ sym (test .before .same-key .ensures) ∙ test .if1 .taken)
     ∙ sym (c .is-still .ensures))
 
@@ -62,14 +59,14 @@ loop-again : tie.Need-loop-again Inv-loop μ-loop
 loop-again c =
     let at-loop = c .before .before .before .before .before in
     let i = at-loop .loop .i in
-    let start = at-loop .before .before .before .before .before .before in
-    let cut = tableIn (start .args .list .now) (start .args .count) in
+    let start = at-loop .before .before .before .before .before in
+    let row = start .args .places .now in
     let seen = c .before .before .before .view-in in (
       omega arith,
       at-loop .loop .inv .1,
       rw (add-one i)
           (sym
-          (still-passed _ _ _ cut i _ (seen .ensures) (omega arith) (omega arith)
+          (still-passed _ _ _ row i _ (seen .ensures) (omega arith)
           (ap (λ (k : List ℕ). sameKey k (start .args .key .now)) (sym (c .before .before .record-key .ensures)) ∙ sym (c .before .same-key .ensures) ∙ c .if1 .left))
           ∙ at-loop .loop .inv .2),
     )
@@ -77,9 +74,9 @@ loop-again c =
 returns-2 : tie.Need-returns-2 Inv-loop μ-loop
 returns-2 c =
     let at-loop = c .before in
-    let start = at-loop .before .before .before .before .before .before in
-    let cut = tableIn (start .args .list .now) (start .args .count) in
-    sym (sym (at-loop .loop .inv .2) ∙ still-end _ _ _ cut (at-loop .loop .i) (omega arith))
+    let start = at-loop .before .before .before .before .before in
+    let row = start .args .places .now in
+    sym (sym (at-loop .loop .inv .2) ∙ still-end _ _ _ row (at-loop .loop .i) (omega arith))
 
 pub still-there-spec : {M : Type 1} → statement M
 still-there-spec =
@@ -87,7 +84,6 @@ still-there-spec =
     (tie.spec
     Inv-loop
     μ-loop
-    counted-in-requires
     loop-holds
     view-in-requires
     record-key-requires

@@ -9,20 +9,20 @@ use native.Mathlib.Omega.{arith}
 use lib.ListN.{length, drop, length-map}
 use borrow.Author.Tests.{not-true, not-false}
 use Rattle.key.specs.Key.{isAmong, keysIn}
-use Rattle.account.specs.Views.{recordsAt, tableIn}
+use Rattle.account.specs.Views.{recordsIn}
 use Rattle.judge.specs.Freeze.{allFrozen}
 use Rattle.judge.proofs.Freezing.{mint-thawed, mint-kept, mints-end}
 use Rattle.judge.proofs.freeze.verify_token_authorities_unchanged.Statement.{statement}
 use Rattle.judge.proofs.freeze.verify_token_authorities_unchanged.Tie as tie
 
 abbrev Inv-loop : tie.InvT-loop
-Inv-loop before before-list before-count after after-list after-count vault mints count i₀ i =
+Inv-loop before before-places after after-places vault mints count i₀ i =
     (i ≤ 16)
-    × (allFrozen vault (λ (m : List ℕ). isAmong m (drop i (keysIn mints))) (recordsAt after (tableIn after-list after-count)) (recordsAt before (tableIn before-list before-count))
-    ≡ allFrozen vault (λ (m : List ℕ). isAmong m (keysIn mints)) (recordsAt after (tableIn after-list after-count)) (recordsAt before (tableIn before-list before-count)))
+    × (allFrozen vault (λ (m : List ℕ). isAmong m (drop i (keysIn mints))) (recordsIn after after-places) (recordsIn before before-places)
+    ≡ allFrozen vault (λ (m : List ℕ). isAmong m (keysIn mints)) (recordsIn after after-places) (recordsIn before before-places))
 
 abbrev μ-loop : tie.MeasureT-loop
-μ-loop before before-list before-count after after-list after-count vault mints count i₀ i = 16 - i
+μ-loop before before-places after after-places vault mints count i₀ i = 16 - i
 
 loop-holds : tie.Need-loop-holds Inv-loop μ-loop
 loop-holds c = (omega arith, refl)
@@ -31,8 +31,8 @@ returns : tie.Need-returns Inv-loop μ-loop
 returns c =
     let at-loop = c .before .before in
     let start = at-loop .before .before .before .before .before .before in
-    let mints = start .args .t8 in
-    let long : length (mints .list) ≡ 16 = simp length-map at (start .good .1 .1 .1 .1 .1 .1 .1 .0 .1 .1 .0 .1 .0 .1) in
+    let mints = start .args .t6 in
+    let long : length (mints .list) ≡ 16 = simp length-map at (start .good .1 .1 .1 .1 .1 .0 .1 .1 .0 .1 .0 .1) in
     sym (sym (at-loop .loop .inv .1) ∙ mints-end _ _ _ mints (at-loop .loop .i) (omega arith))
 
 mul-k : tie.Need-mul-k Inv-loop μ-loop
@@ -48,8 +48,8 @@ returns-2 : tie.Need-returns-2 Inv-loop μ-loop
 returns-2 c =
     let at-loop = c .before .before .before .before .before in
     let start = at-loop .before .before .before .before .before .before in
-    let mints = start .args .t8 in
-    let long : length (mints .list) ≡ 16 = simp length-map at (start .good .1 .1 .1 .1 .1 .1 .1 .0 .1 .1 .0 .1 .0 .1) in
+    let mints = start .args .t6 in
+    let long : length (mints .list) ≡ 16 = simp length-map at (start .good .1 .1 .1 .1 .1 .0 .1 .1 .0 .1 .0 .1) in
     sym
     (sym (at-loop .loop .inv .1)
     ∙ mint-thawed _ _ _ mints (at-loop .loop .i) _ (omega arith) (omega arith) (sym (c .before .key-frozen .ensures) ∙ not-true _ (c .if2 .taken)))
@@ -65,8 +65,8 @@ loop-again c =
     let at-loop = c .before .before .before .before .before in
     let i = at-loop .loop .i in
     let start = at-loop .before .before .before .before .before .before in
-    let mints = start .args .t8 in
-    let long : length (mints .list) ≡ 16 = simp length-map at (start .good .1 .1 .1 .1 .1 .1 .1 .0 .1 .1 .0 .1 .0 .1) in (
+    let mints = start .args .t6 in
+    let long : length (mints .list) ≡ 16 = simp length-map at (start .good .1 .1 .1 .1 .1 .0 .1 .1 .0 .1 .0 .1) in (
       omega arith,
       rw (add-one i)
           (sym (mint-kept _ _ _ mints i _ (omega arith) (omega arith) (sym (c .before .key-frozen .ensures) ∙ not-false _ (c .if2 .left)))
@@ -77,8 +77,8 @@ returns-3 : tie.Need-returns-3 Inv-loop μ-loop
 returns-3 c =
     let at-loop = c .before in
     let start = at-loop .before .before .before .before .before .before in
-    let mints = start .args .t8 in
-    let long : length (mints .list) ≡ 16 = simp length-map at (start .good .1 .1 .1 .1 .1 .1 .1 .0 .1 .1 .0 .1 .0 .1) in
+    let mints = start .args .t6 in
+    let long : length (mints .list) ≡ 16 = simp length-map at (start .good .1 .1 .1 .1 .1 .0 .1 .1 .0 .1 .0 .1) in
     sym (sym (at-loop .loop .inv .1) ∙ mints-end _ _ _ mints (at-loop .loop .i) (omega arith))
 
 pub verify-token-authorities-unchanged-spec : {M : Type 1} → statement M

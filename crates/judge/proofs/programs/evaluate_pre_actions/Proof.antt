@@ -7,7 +7,7 @@ use native.Mathlib.Omega.{arith}
 use lib.ListN.{length, drop, length-map}
 use borrow.Author.Tests.{not-true, not-false}
 use Rattle.action.specs.Views.{actionsAt}
-use Rattle.account.specs.Views.{recordsAt, tableIn}
+use Rattle.account.specs.Views.{recordsIn}
 use Rattle.judge.specs.Programs.{programsAnswer}
 use Rattle.judge.specs.Views.{programsIn}
 use Rattle.judge.proofs.Lists.{programs-refused, programs-passed, programs-end}
@@ -15,13 +15,13 @@ use Rattle.judge.proofs.programs.evaluate_pre_actions.Statement.{statem
 use Rattle.judge.proofs.programs.evaluate_pre_actions.Tie as tie
 
 abbrev Inv-loop : tie.InvT-loop
-Inv-loop region parsed table list count slot entries n i₀ i =
+Inv-loop region parsed table places slot entries n i₀ i =
     (i ≤ n) × (n ≡ min (entries .count) 16)
-    × (programsAnswer slot (actionsAt region parsed) (recordsAt table (tableIn list count)) (drop i (programsIn entries))
-    ≡ programsAnswer slot (actionsAt region parsed) (recordsAt table (tableIn list count)) (programsIn entries))
+    × (programsAnswer slot (actionsAt region parsed) (recordsIn table places) (drop i (programsIn entries))
+    ≡ programsAnswer slot (actionsAt region parsed) (recordsIn table places) (programsIn entries))
 
 abbrev μ-loop : tie.MeasureT-loop
-μ-loop region parsed table list count slot entries n i₀ i = n - i
+μ-loop region parsed table places slot entries n i₀ i = n - i
 
 entries-counted-requires : tie.Need-entries-counted-requires Inv-loop μ-loop
 entries-counted-requires c κs = tt
@@ -45,8 +45,8 @@ returns : tie.Need-returns Inv-loop μ-loop
 returns c =
     let at-loop = c .before .before .before .before .before in
     let start = at-loop .before .before .before .before .before in
-    let entries = start .args .t6 in
-    let long : length (entries .list) ≡ 16 = simp length-map at (start .good .1 .1 .1 .1 .1 .0 .1 .1 .0 .1 .0 .1) in
+    let entries = start .args .t5 in
+    let long : length (entries .list) ≡ 16 = simp length-map at (start .good .1 .1 .1 .1 .0 .1 .1 .0 .1 .0 .1) in
     let asked = c .before .before .program-answer in
     sym
     (sym (at-loop .loop .inv .2)
@@ -63,8 +63,8 @@ loop-again c =
     let at-loop = c .before .before .before .before .before in
     let i = at-loop .loop .i in
     let start = at-loop .before .before .before .before .before in
-    let entries = start .args .t6 in
-    let long : length (entries .list) ≡ 16 = simp length-map at (start .good .1 .1 .1 .1 .1 .0 .1 .1 .0 .1 .0 .1) in
+    let entries = start .args .t5 in
+    let long : length (entries .list) ≡ 16 = simp length-map at (start .good .1 .1 .1 .1 .0 .1 .1 .0 .1 .0 .1) in
     let asked = c .before .before .program-answer in (
       omega arith,
       at-loop .loop .inv .1,
@@ -80,8 +80,8 @@ returns-2 : tie.Need-returns-2 Inv-loop μ-loop
 returns-2 c =
     let at-loop = c .before .before in
     let start = at-loop .before .before .before .before .before in
-    let entries = start .args .t6 in
-    let long : length (entries .list) ≡ 16 = simp length-map at (start .good .1 .1 .1 .1 .1 .0 .1 .1 .0 .1 .0 .1) in
+    let entries = start .args .t5 in
+    let long : length (entries .list) ≡ 16 = simp length-map at (start .good .1 .1 .1 .1 .0 .1 .1 .0 .1 .0 .1) in
     c .of .ensures ∙ sym (sym (at-loop .loop .inv .2) ∙ programs-end _ _ _ entries (at-loop .loop .i) (omega arith))
 
 pub evaluate-pre-actions-spec : {M : Type 1} → statement M

@@ -4,7 +4,7 @@ use mathlib.Core.Path.{_≡_, refl, sym, ap, _∙_}
 use Prim.Native.Nat.{_<_, _≤_}
 use native.Mathlib.Omega.{arith}
 use lib.ListN.{length}
-use Rattle.account.specs.Views.{recordsAt, tableIn, zeroView}
+use Rattle.account.specs.Views.{recordsIn, zeroView}
 use Rattle.account.proofs.Views.{length-records}
 use Rattle.account.proofs.Lookups.{key-there}
 use Rattle.judge.proofs.Lists.{program-out-of-range, program-in-range}
@@ -12,19 +12,15 @@ use borrow.Author.Needs.{needs}
 use Rattle.judge.proofs.programs.program_answer.Statement.{statement}
 use Rattle.judge.proofs.programs.program_answer.Tie as tie
 
-counted-in-requires : tie.Need-counted-in-requires
-counted-in-requires c κs = search needs
-
 of-requires : tie.Need-of-requires
 of-requires c κs = search needs
 
 returns : tie.Need-returns
 returns c =
-    let asked = c .before .before in
-    let start = asked .before .before .before .before in
+    let start = c .before .before .before .before .before in
     let table = start .args .table .now in
-    let t = tableIn (start .args .list .now) (start .args .count) in
-    let past : length (recordsAt table t) ≤ start .args .program = rw (length-records table t, ← (asked .counted-in .ensures)) (omega arith) in
+    let row = start .args .places .now in
+    let past : length (recordsIn table row) ≤ start .args .program = rw (length-records table row) (omega arith) in
     c .of .ensures ∙ sym (program-out-of-range _ _ _ _ past)
 
 view-in-requires : tie.Need-view-in-requires
@@ -38,20 +34,18 @@ lists-answer-requires c κs = search needs
 
 returns-2 : tie.Need-returns-2
 returns-2 c =
-    let asked = c .before .before .before .before in
-    let start = asked .before .before .before .before in
+    let start = c .before .before .before .before .before .before .before in
     let table = start .args .table .now in
-    let t = tableIn (start .args .list .now) (start .args .count) in
-    let inside : start .args .program < length (recordsAt table t) = rw (length-records table t, ← (asked .counted-in .ensures)) (omega arith) in
+    let row = start .args .places .now in
+    let inside : start .args .program < length (recordsIn table row) = rw (length-records table row) (omega arith) in
     c .lists-answer .ensures
-    ∙ rw (c .before .record-key .ensures, c .before .before .view-in .ensures, ← (key-there table t (start .args .program) zeroView (omega arith) (omega arith)))
+    ∙ rw (c .before .record-key .ensures, c .before .before .view-in .ensures, ← (key-there table row (start .args .program) zeroView (omega arith)))
     (sym (program-in-range _ _ _ _ inside))
 
 pub program-answer-spec : {M : Type 1} → statement M
 program-answer-spec =
     tie.close
     (tie.spec
-    counted-in-requires
     of-requires
     returns
     view-in-requires
