@@ -4,20 +4,36 @@ use crate::fields::is_token;
 use crate::fields::key_of;
 use crate::row::action_in;
 use crate::row::how_many;
+use key::KEY_LENGTH;
+use key::Key;
 use key::Keys;
+use key::MAX_KEYS;
 ghost use mathlib.Core.Path.{_≡_};
-ghost use Rattle.action.specs.Mints.{withMint, listedMints};
-ghost use Rattle.action.specs.Views.{actionAt, actionsIn};
+ghost use mathlib.Core.Bool.{not, _&&_};
+ghost use lib.Dec.{eqb, ltb};
+ghost use lib.ListN.{length};
+ghost use Rattle.key.specs.Key.{sameKey, keyLength, mostKeys};
+ghost use Rattle.action.specs.Fields.{isToken};
+ghost use Rattle.action.specs.Mints.{listedMints};
+ghost use Rattle.action.specs.Views.{actionsIn};
 
-fn with_mint(region: &[u8], view: ActionView, mints: Keys) -> Keys
-    ensures { λ r. ⌜ r ≡ withMint mints (actionAt (now (region .entry)) view) ⌝ }
+// Whether an action's mint is put into a list of `count` keys, where a search for it ended at `k`.
+fn is_new(view: ActionView, mint: &[u8], k: Key, count: usize) -> bool
+    ensures { λ r. ⌜ r ≡ (isToken (view .kind) && (ltb count mostKeys && eqb (length (now (mint .entry))) keyLength && not (ltb 0 count && sameKey (k .bytes) (now (mint .entry))))) ⌝ }
 {
     if !is_token(view.kind) {
-        return mints;
+        return false;
     }
-    mints.with(key_of(region, view))
+    if MAX_KEYS <= count {
+        return false;
+    }
+    if mint.len() != KEY_LENGTH {
+        return false;
+    }
+    !k.is_found(mint, count)
 }
 
+// The list is filled where it stands: handed on for each action, all of it would be copied.
 pub fn listed_mints(region: &[u8], actions: &[u64]) -> Keys
     ensures { λ r. ⌜ r ≡ listedMints (actionsIn (now (region .entry)) (now (actions .entry))) ⌝ }
 {
@@ -26,7 +42,19 @@ pub fn listed_mints(region: &[u8], actions: &[u64]) -> Keys
     let mut i = 0;
     while i < n {
         let view = action_in(actions, i);
-        mints = with_mint(region, view, mints);
+        let mint = key_of(region, view);
+        let count = mints.count;
+        let mut at = 0;
+        let mut k = mints.list[0];
+        while k.goes_on(mint, at, count) {
+            at += 1;
+            k = mints.list[at];
+        }
+        if is_new(view, mint, k, count) {
+            let key = key::key_of(mint);
+            mints.list[count] = key;
+            mints.count = count + 1;
+        }
         i += 1;
     }
     mints

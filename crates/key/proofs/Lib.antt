@@ -1,3 +1,4 @@
 pub mod Filling
 pub mod Laws
+pub mod Searching
 pub mod Words

@@ -1,7 +1,10 @@
 // Keys of 32 bytes. Every comparison of keys goes through `same_key`.
 ghost use mathlib.Core.Path.{_≡_};
+ghost use mathlib.Core.Bool.{not, _&&_};
 ghost use mathlib.Core.List.{[]};
-ghost use Rattle.key.specs.Key.{sameBytes, sameKey, isAmong, keysIn, keysOf, keyFrom, withKey};
+ghost use Prim.Native.Nat.{_+_, min};
+ghost use lib.Dec.{ltb};
+ghost use Rattle.key.specs.Key.{sameBytes, sameKey, mostKeys, isAmong, keysIn, keysOf, keyFrom, withKey};
 
 pub const KEY_LENGTH: usize = 32;
 
@@ -88,6 +91,37 @@ impl Key {
         let bytes = self.bytes;
         same_key(&bytes, key)
     }
+
+    // Whether a search among `count` keys goes on past this one, which stands at `at`. Who owns a list
+    // searches it on the spot: handed to a function, all of it is copied.
+    pub fn goes_on(self, key: &[u8], at: usize, count: usize) -> bool
+        ensures { λ r. ⌜ r ≡ (ltb (at + 1) count && not (sameKey (self .bytes) (now (key .entry)))) ⌝ }
+    {
+        if count <= at {
+            return false;
+        }
+        if count - at <= 1 {
+            return false;
+        }
+        !self.is(key)
+    }
+
+    // Whether a search among `count` keys that ended at this one found the key.
+    pub fn is_found(self, key: &[u8], count: usize) -> bool
+        ensures { λ r. ⌜ r ≡ (ltb 0 count && sameKey (self .bytes) (now (key .entry))) ⌝ }
+    {
+        if count == 0 {
+            return false;
+        }
+        self.is(key)
+    }
+}
+
+// How many keys of a list there are to look at, whatever its count says.
+pub fn counted(count: usize) -> usize
+    ensures { λ r. ⌜ r ≡ min count mostKeys ⌝ }
+{
+    if count < MAX_KEYS { count } else { MAX_KEYS }
 }
 
 impl Keys {
