@@ -6,6 +6,5 @@ pub mod Parsing
 pub mod Given
 pub mod Views
 pub mod Gluing
-pub mod Balances
 pub mod Lookups
 pub mod Theorems

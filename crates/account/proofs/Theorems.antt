@@ -1,8 +1,8 @@
 -- What is promised of the account table, each as one sentence.
 -- Assumes nothing.
-use mathlib.Core.Path.{_≡_, refl, ap, _∙_}
+use mathlib.Core.Path.{_≡_, refl, ap}
 use mathlib.Core.Bool.{Bool, true, false, not, _&&_, and-eq-true-iff}
-use mathlib.Core.List.{List, [], _∷_, _++_, List·Permᴰ, List·Permᴰ·nil, List·Permᴰ·cons, List·Permᴰ·swap, List·Permᴰ·trans}
+use mathlib.Core.List.{List, [], _∷_}
 use mathlib.Core.Logic.{_↔_}
 use Prim.Native.Nat.{ℕ, zero, suc, _+_, _*_, _<_, _≤_}
 use native.Mathlib.Nat.{not-suc-le-zero, le-of-suc-le-suc}
@@ -14,18 +14,16 @@ use lib.Seq.{length-take-le}
 use Rattle.answer.specs.declared.Answer.{Answer}
 use Rattle.answer.specs.Numbers.{answer, accepted, refuseIf, invalidInstructionData, badTable}
 use Rattle.answer.specs.Refusable.{Refusable, given, refused}
-use Rattle.number.specs.Number.{Bytes, number, cappedSum, highest}
+use Rattle.number.specs.Number.{Bytes, number}
 use Rattle.compact.specs.declared.Entry.{Entry}
 use Rattle.compact.specs.Compact.{within, part}
 use Rattle.compact.proofs.Parts.{length-part}
 use Rattle.account.specs.Table.{Record, AllStorable, cutRecords, cutTable, recordsOf, glueTable, mostRecords}
-use Rattle.account.specs.Tokens.{isTokenAccount, isCounted, share, holdings, balance, tokenAccountLength}
 use Rattle.account.specs.Indexes.{allBelow, resolvable, resolving, keyAmong, keyAt}
 use Rattle.account.specs.Views.{recordsIn, placesOf}
 use Rattle.account.proofs.Given.{none-given, one-given, table-given, table-refusal}
 use Rattle.account.proofs.Views.{records-of-places}
 use Rattle.account.proofs.Gluing.{table-glued, table-bytes}
-use Rattle.account.proofs.Balances.{token-account-long, holdings-append}
 use Rattle.account.proofs.Lookups.{key-past, within-ends}
 
 -- ---- the table
@@ -45,45 +43,6 @@ gluing-what-was-cut-gives-the-bytes s l bytes e = table-bytes s l bytes e
 -- the places that cutting answers with name the records of the table, and none where it is malformed
 pub views-name-the-records : (s : List ℕ) → recordsIn s (take (2 * placesOf (cutTable s) .count) (placesOf (cutTable s) .list)) ≡ recordsOf (cutTable s)
 views-name-the-records s = records-of-places s (placesOf (cutTable s)) refl
-
--- ---- token accounts and balances
-
--- a token account has at least 165 bytes of data
-pub a-token-account-has-165-bytes : (r : Record) → isTokenAccount r ≡ true → tokenAccountLength ≤ length (r .payload)
-a-token-account-has-165-bytes r e = token-account-long r e
-
--- and so has a counted record
-pub a-counted-record-has-165-bytes : (vault : List ℕ) (r : Record) → isCounted vault r ≡ true → tokenAccountLength ≤ length (r .payload)
-unfolding isCounted
-a-counted-record-has-165-bytes vault r e = token-account-long r (and-eq-true-iff (isTokenAccount r) _ .0 e .0)
-
-module _ (vault mint : List ℕ) where
-  -- the balance of two tables' records one after the other is the capped sum of theirs
-  pub balance-append : (l m : List Record) → balance vault mint (l ++ m) ≡ cappedSum (balance vault mint l) (balance vault mint m)
-  unfolding balance cappedSum
-  balance-append l m = rw (holdings-append vault mint l m) (omega arith)
-
-  holdings-order : {l m : List Record} → List·Permᴰ l m → holdings vault mint l ≡ holdings vault mint m
-  unfolding holdings
-  holdings-order List·Permᴰ·nil = refl
-  holdings-order (List·Permᴰ·cons e d) = rw (e, holdings-order d)
-  holdings-order (List·Permᴰ·swap p q) = rw (p, q) (omega arith)
-  holdings-order (List·Permᴰ·trans d e) = holdings-order d ∙ holdings-order e
-
-  -- the order of records does not matter
-  pub the-order-of-records-does-not-matter : {l m : List Record} → List·Permᴰ l m → balance vault mint l ≡ balance vault mint m
-  unfolding balance
-  the-order-of-records-does-not-matter d = rw (holdings-order d)
-
-  -- a record that is not counted adds nothing
-  pub a-record-not-counted-adds-nothing : (r : Record) (l : List Record) → isCounted vault r ≡ false → balance vault mint (r ∷ l) ≡ balance vault mint l
-  unfolding balance holdings share
-  a-record-not-counted-adds-nothing r l e = rw e (omega arith)
-
-  -- a balance is at most 2^64 - 1
-  pub a-balance-is-capped : (l : List Record) → balance vault mint l ≤ highest
-  unfolding balance
-  a-balance-is-capped l = omega arith
 
 -- ---- lookup
 

@@ -1,4 +1,3 @@
 pub mod Table
-pub mod Tokens
 pub mod Indexes
 pub mod Views

@@ -1,10 +1,8 @@
-// The account table: cutting it into views of its records, what a view names, token accounts and
-// balances, and indexes into it. Any bytes get an answer.
+// The account table: cutting it into views of its records, what a view names, and indexes into it. Any
+// bytes get an answer.
 pub mod fields;
 pub mod indexes;
 pub mod parse;
-mod programs;
-pub mod tokens;
 
 use answer::Answer;
 

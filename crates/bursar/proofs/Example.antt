@@ -14,7 +14,7 @@ use Rattle.action.specs.Mints.{isListed}
 use Rattle.action.specs.Creation.{formOf, allKeep, keeps, bothLists, solRepeats, howOften, mintRepeats, mintAgain, inStoredForm, storedActions, creation}
 use Rattle.compact.specs.Compact.{mostInstructions, byte, front, decodeOne, decodeEach, decode}
 use Rattle.account.specs.Table.{cutTable, cutRecords, firstRecord}
-use Rattle.account.specs.Tokens.{balance}
+use Rattle.token.specs.Tokens.{balance}
 use Rattle.limit.specs.Limit.{refusalOf, windowOver, base, above, breaks, ruleAnswer, isSol, ofClass, classAnswer, spentChange, isLimit, liveChange, changeOf, settled}
 use Rattle.judge.specs.Freeze.{allFrozen}
 use Rattle.judge.specs.Programs.{programsAnswer}

@@ -22,7 +22,7 @@ use Rattle.action.specs.Creation.{keeps, allKeep, storedActions}
 use Rattle.action.proofs.Changing.{Regular, AllRegular, changed-kind, changed-key, mint-there, window-kept}
 use Rattle.action.proofs.Keeping.{window-kept as windowed-is}
 use Rattle.action.proofs.Theorems.{stored-is-formed, stored-is-regular}
-use Rattle.account.specs.Tokens.{balance}
+use Rattle.token.specs.Tokens.{balance}
 use Rattle.limit.specs.Limit.{Charge, breaks, isLimit, settled}
 use Rattle.limit.proofs.Taking.{counts, EachKept, Goes, on, anew, left-and-taken, limit-kept, window-goes}
 use Rattle.judge.specs.Judge.{Call, recordsBefore, recordsAfter, decrease, amountFor, charged, actionsOf, judged, regionAfter}

@@ -32,10 +32,10 @@ use Rattle.compact.specs.declared.Range.{Range}
 use Rattle.compact.specs.declared.Written.{Written}
 use Rattle.account.specs.Indexes.{keyAmong, keyAt, resolving}
 use Rattle.account.specs.Table.{cutTable}
-use Rattle.account.specs.Tokens.{balance as balanceOf, isCounted, isTokenAccount, mintOf}
 use Rattle.account.specs.Views.{placesOf, recordAt, recordsIn, viewsOf, zeroView}
 use Rattle.account.specs.declared.Places.{Places}
 use Rattle.account.specs.declared.RecordView.{RecordView}
+use Rattle.token.specs.Tokens.{balance as balanceOf, isCounted, isTokenAccount, mintOf}
 use Rattle.limit.specs.Limit.{changeOf, classAnswer, ruleAnswer}
 use Rattle.limit.specs.Views.{chargesAt, settledAt}
 use Rattle.limit.specs.declared.Amounts.{Amounts}
@@ -312,25 +312,27 @@ pub account-parse-cut-places : (table : List ℕ)
     → OneOutcome (λ (r : Places). r ≡ placesOf (cutTable table))
 account-parse-cut-places _ _ _ p q = one-outcome p q
 
--- account::tokens::is_token_account
-pub account-tokens-is-token-account : (table : List ℕ) (view : RecordView)
+-- ---- token
+
+-- token::is_token_account
+pub token-is-token-account : (table : List ℕ) (view : RecordView)
     → OneOutcome (λ (r : Bool). r ≡ isTokenAccount (recordAt table view))
-account-tokens-is-token-account _ _ _ _ p q = one-outcome p q
+token-is-token-account _ _ _ _ p q = one-outcome p q
 
--- account::tokens::mint_of
-pub account-tokens-mint-of : (table : List ℕ) (view : RecordView)
+-- token::mint_of
+pub token-mint-of : (table : List ℕ) (view : RecordView)
     → OneOutcome (λ (r : List ℕ). r ≡ mintOf (recordAt table view))
-account-tokens-mint-of _ _ _ _ p q = one-outcome p q
+token-mint-of _ _ _ _ p q = one-outcome p q
 
--- account::tokens::is_counted
-pub account-tokens-is-counted : (table : List ℕ) (view : RecordView) (vault : List ℕ)
+-- token::is_counted
+pub token-is-counted : (table : List ℕ) (view : RecordView) (vault : List ℕ)
     → OneOutcome (λ (r : Bool). r ≡ isCounted vault (recordAt table view))
-account-tokens-is-counted _ _ _ _ _ p q = one-outcome p q
+token-is-counted _ _ _ _ _ p q = one-outcome p q
 
--- account::tokens::balance
-pub account-tokens-balance : (table places vault mint : List ℕ)
+-- token::balance
+pub token-balance : (table places vault mint : List ℕ)
     → OneOutcome (λ (r : ℕ). r ≡ balanceOf vault mint (recordsIn table places))
-account-tokens-balance _ _ _ _ _ _ p q = one-outcome p q
+token-balance _ _ _ _ _ _ p q = one-outcome p q
 
 -- ---- limit
 

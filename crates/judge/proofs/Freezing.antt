@@ -14,7 +14,7 @@ use Rattle.key.specs.Key.{sameKey, sameBytes, isAmong, keysIn}
 use Rattle.key.proofs.Laws.{keys-step, keys-end}
 use Rattle.account.specs.declared.RecordView.{RecordView}
 use Rattle.account.specs.Table.{Record}
-use Rattle.account.specs.Tokens.{isTokenAccount, isCounted, mintOf}
+use Rattle.token.specs.Tokens.{isTokenAccount, isCounted, mintOf}
 use Rattle.account.specs.Views.{recordAt, viewsOf, recordsIn, zeroView}
 use Rattle.account.proofs.Views.{records-step, length-records}
 use Rattle.judge.specs.Freeze.{firstWithKey, samePart, sameAuthorities, isStill, isFoundStill, keepsFreeze, allFrozen}

@@ -16,7 +16,7 @@ use Rattle.compact.specs.Compact.{mostInstructions, byte, front, decodeOne, dec
 use Rattle.compact.specs.NamedValues.{namedValues as compactValues}
 use Rattle.compact.proofs.NamedValues.{as-named as compact-as-named}
 use Rattle.account.specs.Table.{cutTable, cutRecords, firstRecord}
-use Rattle.account.specs.Tokens.{balance}
+use Rattle.token.specs.Tokens.{balance}
 use Rattle.limit.specs.Limit.{refusalOf, windowOver, base, above, breaks, ruleAnswer, isSol, ofClass, classAnswer, spentChange, isLimit, liveChange, changeOf, settled}
 use Rattle.judge.specs.Freeze.{allFrozen}
 use Rattle.judge.specs.Programs.{programsAnswer}

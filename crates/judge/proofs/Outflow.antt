@@ -18,7 +18,7 @@ use Rattle.action.specs.Region.{Action}
 use Rattle.action.specs.Fields.{isToken, keyOf}
 use Rattle.action.specs.Views.{actionAt, actionsAt, viewsIn, zeroView}
 use Rattle.account.specs.Table.{Record}
-use Rattle.account.specs.Tokens.{balance}
+use Rattle.token.specs.Tokens.{balance}
 use Rattle.judge.specs.Judge.{decrease}
 use Rattle.judge.specs.Views.{sharesMint, amountFrom, amountsOf}
 

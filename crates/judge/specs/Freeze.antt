@@ -7,7 +7,7 @@ use mathlib.Core.Option.{Option, none, some}
 use lib.ListN.{take, drop}
 use Rattle.key.specs.Key.{sameKey, sameBytes}
 use Rattle.account.specs.Table.{Record}
-use Rattle.account.specs.Tokens.{isTokenAccount, isCounted, mintOf}
+use Rattle.token.specs.Tokens.{isTokenAccount, isCounted, mintOf}
 
 -- the first record with a key
 unfoldable pub firstWithKey : List ℕ → List Record → Option Record

@@ -17,7 +17,7 @@ use Rattle.action.specs.Mints.{isListed}
 use Rattle.action.specs.Creation.{storedActions}
 use Rattle.compact.specs.Compact.{Instruction, Read, decode}
 use Rattle.account.specs.Table.{Record, cutTable, recordsOf}
-use Rattle.account.specs.Tokens.{balance}
+use Rattle.token.specs.Tokens.{balance}
 use Rattle.limit.specs.Limit.{Charge, classAnswer, settled}
 use Rattle.judge.specs.Programs.{programsAnswer}
 use Rattle.judge.specs.Freeze.{allFrozen}

@@ -16,7 +16,7 @@ use Rattle.compact.specs.declared.Entries.{Entries}
 use Rattle.compact.specs.declared.Entry.{Entry}
 use Rattle.compact.specs.Compact.{entriesIn}
 use Rattle.account.specs.Table.{Record}
-use Rattle.account.specs.Tokens.{balance}
+use Rattle.token.specs.Tokens.{balance}
 use Rattle.limit.specs.declared.Amounts.{Amounts}
 use Rattle.limit.specs.Limit.{Charge, classAnswer}
 use Rattle.judge.specs.Freeze.{allFrozen}

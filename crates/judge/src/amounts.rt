@@ -1,5 +1,4 @@
 // The amount that each action's rule looks at.
-use account::tokens::balance;
 use action::ActionView;
 use action::MAX_ACTIONS;
 use action::Parsed;
@@ -9,13 +8,14 @@ use action::fields::key_of;
 use action::form::counted;
 use limit::Amounts;
 use number::floored_difference;
+use token::balance;
 ghost use mathlib.Core.Path.{_≡_};
 ghost use mathlib.Core.Bool.{_||_};
 ghost use mathlib.Core.List.{map};
 ghost use Prim.Native.Nat.{_<_, _≤_};
 ghost use lib.Dec.{leb};
 ghost use lib.ListN.{length, getD};
-ghost use Rattle.account.specs.Tokens.{balance as balanceOf};
+ghost use Rattle.token.specs.Tokens.{balance as balanceOf};
 ghost use Rattle.account.specs.Views.{recordsIn};
 ghost use Rattle.action.specs.Views.{actionAt, actionsAt};
 ghost use Rattle.judge.specs.Judge.{decrease};

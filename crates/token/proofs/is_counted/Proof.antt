@@ -1,15 +1,15 @@
--- `account::tokens::is_counted` meets its contract: a token account's data is long enough to read whose it is.
+-- `token::is_counted` meets its contract: a token account's data is long enough to read whose it is.
 -- Assumes nothing.
 use mathlib.Core.Path.{sym, _∙_}
 use Prim.Native.Nat.{_≤_}
 use native.Mathlib.Omega.{arith}
 use borrow.Author.Tests.{not-true, not-false}
 use lib.ListN.{length}
 use Rattle.account.specs.Views.{recordAt}
-use Rattle.account.proofs.Balances.{token-account-long, no-account-not-counted, account-counted}
+use Rattle.token.proofs.Balances.{token-account-long, no-account-not-counted, account-counted}
 use borrow.Author.Needs.{needs}
-use Rattle.account.proofs.tokens.is_counted.Statement.{statement}
-use Rattle.account.proofs.tokens.is_counted.Tie as tie
+use Rattle.token.proofs.is_counted.Statement.{statement}
+use Rattle.token.proofs.is_counted.Tie as tie
 
 is-token-account-requires : tie.Need-is-token-account-requires
 is-token-account-requires c κs = search needs

@@ -9,11 +9,11 @@ use borrow.Author.Tests.{le-leb, lt-leb, leb-true}
 use lib.ListN.{length, getD, drop, drop-of-length-le}
 use Rattle.key.specs.Key.{sameKey}
 use Rattle.number.specs.Number.{cappedSum, highest}
 use Rattle.account.specs.declared.RecordView.{RecordView}
 use Rattle.account.specs.Table.{Record}
-use Rattle.account.specs.Tokens.{splToken, token2022, isTokenAccount, mintOf, holderOf, amountOf, isCounted, share, holdings, balance}
+use Rattle.token.specs.Tokens.{splToken, token2022, isTokenAccount, mintOf, holderOf, amountOf, isCounted, share, holdings, balance}
 use Rattle.account.specs.Views.{recordAt, viewsOf, recordsIn}
 use Rattle.account.proofs.Views.{records-step}
 
 module _ (r : Record) where
   pub no-token-account : length (r .payload) < 165 → isTokenAccount r ≡ false

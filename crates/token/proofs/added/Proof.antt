@@ -1,13 +1,13 @@
--- `account::tokens::added` meets its contract: each test is one of the definition's, the mint's first.
+-- `token::added` meets its contract: each test is one of the definition's, the mint's first.
 -- Assumes nothing.
 use mathlib.Core.Path.{sym, _∙_}
 use native.Mathlib.Omega.{arith}
 use borrow.Author.Tests.{not-true, not-false}
 use Rattle.account.specs.Views.{recordAt}
-use Rattle.account.proofs.Balances.{stays-other-mint, stays-not-counted, grows-counted}
+use Rattle.token.proofs.Balances.{stays-other-mint, stays-not-counted, grows-counted}
 use borrow.Author.Needs.{needs}
-use Rattle.account.proofs.tokens.added.Statement.{statement}
-use Rattle.account.proofs.tokens.added.Tie as tie
+use Rattle.token.proofs.added.Statement.{statement}
+use Rattle.token.proofs.added.Tie as tie
 
 mint-of-requires : tie.Need-mint-of-requires
 mint-of-requires c κs = search needs

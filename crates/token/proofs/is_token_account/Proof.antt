@@ -1,14 +1,14 @@
--- `account::tokens::is_token_account` meets its contract: each test is one of the definition's.
+-- `token::is_token_account` meets its contract: each test is one of the definition's.
 -- Assumes nothing.
 use mathlib.Core.Path.{sym, _∙_}
 use Prim.Native.Nat.{_<_, _≤_}
 use native.Mathlib.Omega.{arith}
 use lib.ListN.{length}
 use Rattle.account.specs.Views.{recordAt}
-use Rattle.account.proofs.Balances.{no-token-account, spl-account, not-spl-account}
+use Rattle.token.proofs.Balances.{no-token-account, spl-account, not-spl-account}
 use borrow.Author.Needs.{needs}
-use Rattle.account.proofs.tokens.is_token_account.Statement.{statement}
-use Rattle.account.proofs.tokens.is_token_account.Tie as tie
+use Rattle.token.proofs.is_token_account.Statement.{statement}
+use Rattle.token.proofs.is_token_account.Tie as tie
 
 record-payload-requires : tie.Need-record-payload-requires
 record-payload-requires c κs = search needs

@@ -1,11 +1,11 @@
--- `account::tokens::mint_of` meets its contract: the first 32 bytes of the data, or all of it where it is shorter.
+-- `token::mint_of` meets its contract: the first 32 bytes of the data, or all of it where it is shorter.
 -- Assumes nothing.
 use mathlib.Core.Path.{sym}
 use native.Mathlib.Omega.{arith}
 use lib.Seq.{take-all, length-take-le}
 use borrow.Author.Needs.{needs}
-use Rattle.account.proofs.tokens.mint_of.Statement.{statement}
-use Rattle.account.proofs.tokens.mint_of.Tie as tie
+use Rattle.token.proofs.mint_of.Statement.{statement}
+use Rattle.token.proofs.mint_of.Tie as tie
 
 record-payload-requires : tie.Need-record-payload-requires
 record-payload-requires c κs = search needs

@@ -1,15 +1,15 @@
--- `account::tokens::balance` meets its contract. The loop's invariant: the total is the balance from record `i` on.
+-- `token::balance` meets its contract. The loop's invariant: the total is the balance from record `i` on.
 -- Assumes nothing.
 use Prim.Native.Nat.{_-_, _/_, _≤_}
 use mathlib.Core.Path.{_≡_, sym}
 use native.Mathlib.Omega.{arith}
 use lib.ListN.{length, drop}
-use Rattle.account.specs.Tokens.{balance}
+use Rattle.token.specs.Tokens.{balance}
 use Rattle.account.specs.Views.{recordsIn}
-use Rattle.account.proofs.Balances.{balance-none, balance-before}
+use Rattle.token.proofs.Balances.{balance-none, balance-before}
 use Rattle.account.proofs.Views.{length-records}
-use Rattle.account.proofs.tokens.balance.Statement.{statement}
-use Rattle.account.proofs.tokens.balance.Tie as tie
+use Rattle.token.proofs.balance.Statement.{statement}
+use Rattle.token.proofs.balance.Tie as tie
 
 abbrev Inv-loop : tie.InvT-loop
 Inv-loop table places vault mint total₀ i₀ total i =

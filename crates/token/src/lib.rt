@@ -1,12 +1,16 @@
 // Token accounts: which records are counted, and a mint's balance over them.
-use crate::RecordView;
-use crate::fields;
+mod programs;
+
 use crate::programs::SPL_TOKEN;
 use crate::programs::TOKEN_2022;
+use account::RecordView;
+use account::fields::record_owner;
+use account::fields::record_payload;
+use account::fields::view_in;
 ghost use mathlib.Core.Path.{_≡_};
 ghost use Rattle.number.specs.Number.{cappedSum};
-ghost use Rattle.account.specs.Tokens.{isTokenAccount, mintOf, isCounted, share, balance as balanceOf};
+ghost use Rattle.token.specs.Tokens.{isTokenAccount, mintOf, isCounted, share, balance as balanceOf};
 ghost use Rattle.account.specs.Views.{recordAt, recordsIn};
 
 const TOKEN_ACCOUNT_MIN_SIZE: usize = 165;
 
@@ -19,11 +23,11 @@ const TOKEN_AMOUNT_OFFSET: usize = 64;
 pub fn is_token_account(table: &[u8], view: RecordView) -> bool
     ensures { λ r. ⌜ r ≡ isTokenAccount (recordAt (now (table .entry)) view) ⌝ }
 {
-    let payload = fields::record_payload(table, view);
+    let payload = record_payload(table, view);
     if payload.len() < TOKEN_ACCOUNT_MIN_SIZE {
         return false;
     }
-    let owner = fields::record_owner(table, view);
+    let owner = record_owner(table, view);
     if key::same_key(owner, &SPL_TOKEN) {
         return true;
     }
@@ -34,7 +38,7 @@ pub fn is_token_account(table: &[u8], view: RecordView) -> bool
 pub fn mint_of(table: &[u8], view: RecordView) -> &[u8]
     ensures { λ r. ⌜ now r ≡ mintOf (recordAt (now (table .entry)) view) ⌝ }
 {
-    let payload = fields::record_payload(table, view);
+    let payload = record_payload(table, view);
     if payload.len() < TOKEN_OWNER_OFFSET {
         return payload;
     }
@@ -48,7 +52,7 @@ pub fn is_counted(table: &[u8], view: RecordView, vault: &[u8]) -> bool
     if !is_token_account(table, view) {
         return false;
     }
-    let payload = fields::record_payload(table, view);
+    let payload = record_payload(table, view);
     key::same_key(&payload[TOKEN_OWNER_OFFSET..TOKEN_AMOUNT_OFFSET], vault)
 }
 
@@ -62,7 +66,7 @@ fn added(total: u64, table: &[u8], view: RecordView, vault: &[u8], mint: &[u8]) 
     if !is_counted(table, view, vault) {
         return total;
     }
-    let amount = number::read_u64(fields::record_payload(table, view), TOKEN_AMOUNT_OFFSET);
+    let amount = number::read_u64(record_payload(table, view), TOKEN_AMOUNT_OFFSET);
     number::capped_sum(total, amount)
 }
 
@@ -75,7 +79,7 @@ pub fn balance(table: &[u8], places: &[usize], vault: &[u8], mint: &[u8]) -> u64
     let mut i = places.len() / 2;
     while 0 < i {
         i -= 1;
-        let view = fields::view_in(places, i);
+        let view = view_in(places, i);
         total = added(total, table, view, vault, mint);
     }
     total
