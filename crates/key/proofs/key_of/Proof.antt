@@ -19,7 +19,7 @@ abbrev μ-loop : tie.MeasureT-loop
 
 returns : tie.Need-returns Inv-loop μ-loop
 unfolding zeroKey
-returns c = sym (key-of-another-length _ (c .if1 .taken))
+returns c = sym (key-of-another-length (c .before .args .part .now) (λ e. omega arith))
 
 loop-holds : tie.Need-loop-holds Inv-loop μ-loop
 loop-holds c = (omega arith, refl, refl)
