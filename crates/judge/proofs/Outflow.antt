@@ -1,26 +1,30 @@
 -- Laws of the amounts: which one an action has, and laying them one after the other.
 -- Assumes nothing.
 use mathlib.Core.Path.{_≡_, refl, sym, ap, _∙_}
-use mathlib.Core.Bool.{Bool, true, false, _&&_, _||_, and-eq-true-iff}
+use mathlib.Core.Bool.{Bool, true, false, _&&_, and-eq-true-iff}
+use mathlib.Core.Logic.{⊎-elim}
 use mathlib.Core.List.{List, [], _∷_, _++_, map}
-use Prim.Native.Nat.{ℕ, zero, suc, _-_, _<_, _≤_}
+use Prim.Native.Nat.{ℕ, zero, suc, _+_, _-_, _<_, _≤_, min}
+use native.Mathlib.Nat.{eq-zero-or-pos}
 use native.Mathlib.Omega.{arith}
-use borrow.Author.Tests.{eq-eqb, ne-eqb, lt-leb, leb-false}
-use lib.Dec.{leb}
-use lib.ListN.{length, getD, take, set, replicate, length-append, length-take, length-map, length-replicate, List·getD-map, List·getD-append}
+use borrow.Author.Tests.{eq-eqb, ne-eqb, ltb-true}
+use lib.Dec.{ltb}
+use lib.ListN.{length, getD, take, set, replicate, length-take, length-map, List·getD-map, List·getD-append}
 use lib.Seq.{take-all, take-suc, getD-take, set-at, append-snoc}
-use Rattle.key.specs.Key.{sameKey}
-use Rattle.key.proofs.Laws.{same-key-eq}
+use Rattle.key.specs.declared.Key.{Key}
+use Rattle.key.specs.declared.Keys.{Keys}
+use Rattle.key.specs.Key.{sameKey, keysIn}
+use Rattle.key.proofs.Laws.{same-key-eq, length-keys, key-at}
+use Rattle.key.proofs.Searching.{Searched}
 use Rattle.number.specs.Number.{flooredDifference}
 use Rattle.action.specs.declared.ActionView.{ActionView}
-use Rattle.action.specs.declared.Parsed.{Parsed}
 use Rattle.action.specs.Region.{Action}
 use Rattle.action.specs.Fields.{isToken, keyOf}
-use Rattle.action.specs.Views.{actionAt, actionsAt, viewsIn, zeroView}
+use Rattle.action.specs.Views.{viewsOf, zeroView, actionAt, actionsIn}
 use Rattle.account.specs.Table.{Record}
 use Rattle.token.specs.Tokens.{balance}
 use Rattle.judge.specs.Judge.{decrease}
-use Rattle.judge.specs.Views.{sharesMint, amountFrom, amountsOf}
+use Rattle.judge.specs.Views.{decreaseOf, solAmount, amountFrom, amountsOf}
 
 -- ---- one action
 
@@ -28,22 +32,30 @@ pub decreased : (x y a b : ℕ) → a ≡ x → b ≡ y → flooredDifference a 
 unfolding decrease
 decreased x y a b p q = rw (p, q)
 
+pub mint-decreased : (vault : List ℕ) (before after : List Record) (mint : List ℕ) (a b : ℕ) → a ≡ balance vault mint before → b ≡ balance vault mint after
+    → flooredDifference a b ≡ decreaseOf vault before after mint
+unfolding decreaseOf
+mint-decreased vault before after mint a b p q = decreased _ _ a b p q
+
+module _ (sol gross kind : ℕ) where
+  pub gross-amount : kind ≡ 3 → gross ≡ solAmount sol gross kind
+  unfolding solAmount
+  gross-amount k = rw (eq-eqb _ _ k)
+
+  pub sol-amount : (kind ≡ 3 → ⊥) → sol ≡ solAmount sol gross kind
+  unfolding solAmount
+  sol-amount k = rw (ne-eqb _ _ k)
+
 module _ (vault : List ℕ) (before after : List Record) (sol gross : ℕ) (s : List ℕ) (v : ActionView) where
-  pub token-amount : isToken (v .kind) ≡ true
-      → amountFrom vault before after sol gross (actionAt s v) ≡ decrease (balance vault (keyOf (actionAt s v)) before) (balance vault (keyOf (actionAt s v)) after)
+  pub token-amount : isToken (v .kind) ≡ true → amountFrom vault before after sol gross (actionAt s v) ≡ decreaseOf vault before after (keyOf (actionAt s v))
   unfolding amountFrom actionAt
   token-amount e = rw e
 
-  module _ (e : isToken (v .kind) ≡ false) where
-    pub gross-amount : v .kind ≡ 3 → amountFrom vault before after sol gross (actionAt s v) ≡ gross
-    unfolding amountFrom actionAt
-    gross-amount k = rw (e, eq-eqb _ _ k)
+  pub other-amount : isToken (v .kind) ≡ false → amountFrom vault before after sol gross (actionAt s v) ≡ solAmount sol gross (v .kind)
+  unfolding amountFrom actionAt
+  other-amount e = rw e
 
-    pub sol-amount : (v .kind ≡ 3 → ⊥) → amountFrom vault before after sol gross (actionAt s v) ≡ sol
-    unfolding amountFrom actionAt
-    sol-amount k = rw (e, ne-eqb _ _ k)
-
--- ---- all actions
+-- ---- one after the other
 
 -- what stands at a place of a row does not depend on what is given past its end
 getD-any : {A : Type 0} (l : List A) (i : ℕ) (d e : A) → i < length l → getD l i d ≡ getD l i e
@@ -51,82 +63,53 @@ getD-any [] i d e h = absurd (omega arith)
 getD-any (x ∷ l) zero d e h = refl
 getD-any (x ∷ l) (suc i) d e h = getD-any l i d e (omega arith)
 
--- the amounts of the first i actions, and zeros past them
-abbrev pub laid : (Action → ℕ) → List ℕ → Parsed → ℕ → List ℕ
-laid f s p i = take i (map f (actionsAt s p)) ++ replicate (16 - i) 0
+-- the amounts of the first i, and zeros past them
+abbrev pub laid : {A : Type 0} → (A → ℕ) → List A → ℕ → List ℕ
+laid f l i = take i (map f l) ++ replicate (16 - i) 0
 
-module _ (f : Action → ℕ) (s : List ℕ) (p : Parsed) (i : ℕ) where
-  pub amount-laid : (d : ActionView) → i < p .count → i < length (p .views) → i < 16 → (x : ℕ) → x ≡ f (actionAt s (getD (p .views) i d))
-      → set (laid f s p i) i x ≡ laid f s p (suc i)
-  unfolding actionsAt viewsIn
-  amount-laid d hc hv room x e =
-      let counted = take (p .count) (p .views) in
-      let all = map f (map (actionAt s) counted) in
-      let inside : i < length all = simp (length-map, length-take) (omega arith) in
-      let place : length (take i all) ≡ i = simp length-take (omega arith) in
+module _ {A : Type 0} (f : A → ℕ) (l : List A) (i : ℕ) where
+  pub amount-laid : (d : A) → i < length l → i < 16 → (x : ℕ) → x ≡ f (getD l i d) → set (laid f l i) i x ≡ laid f l (suc i)
+  amount-laid d h room x e =
+      let all = map f l in
+      let inside : i < length all = simp length-map h in
+      let place : length (take i all) ≡ i = simp (length-take, length-map) (omega arith) in
       let one-less : 16 - i ≡ suc (16 - suc i) = omega arith in
-      let this : getD all i (f (actionAt s d)) ≡ x =
-      List·getD-map f (map (actionAt s) counted) i (actionAt s d) ∙ ap f (List·getD-map (actionAt s) counted i d ∙ ap (actionAt s) (getD-take (p .count) (p .views) i d hc)) ∙ sym e in
-      rw (one-less, take-suc all i (f (actionAt s d)) inside, this, append-snoc) (set-at (take i all) 0 (replicate (16 - suc i) 0) x i place)
+      let this : getD all i (f d) ≡ x = List·getD-map f l i d ∙ sym e in
+      rw (one-less, take-suc all i (f d) inside, this, append-snoc) (set-at (take i all) 0 (replicate (16 - suc i) 0) x i place)
 
-  pub all-laid : length (actionsAt s p) ≡ i → record { list = laid f s p i } ≡ amountsOf (map f (actionsAt s p))
+  pub all-laid : i ≡ min (length l) 16 → record { list = laid f l i } ≡ amountsOf (map f l)
   unfolding amountsOf
   all-laid e =
-      let all = map f (actionsAt s p) in
-      let most : length all ≡ i = simp length-map e in
-      rw (take-all i all (omega arith), most)
+      let all = map f l in
+      let size : length all ≡ length l = simp length-map in
+      let front : take i all ≡ take 16 all =
+      ⊎-elim
+      (λ (few : length l - 16 ≡ 0). take-all i all (omega arith) ∙ sym (take-all 16 all (omega arith)))
+      (λ (many : 0 < length l - 16). ap (λ (k : ℕ). take k all) (let k : i ≡ 16 = omega arith in k))
+      (eq-zero-or-pos (length l - 16)) in
+      let rest : 16 - i ≡ 16 - length all = omega arith in
+      rw (front, rest)
 
-  -- and each of them is that action's
-  pub laid-at : (r : ℕ) → r < i → i ≤ p .count → i ≤ length (p .views) → getD (laid f s p i) r 0 ≡ f (actionAt s (getD (p .views) r zeroView))
-  unfolding actionsAt viewsIn
-  laid-at r h hc hv =
-      let counted = take (p .count) (p .views) in
-      let all = map f (map (actionAt s) counted) in
-      let inside : r < length (take i all) = simp (length-take, length-map) (omega arith) in
-      let early : r < p .count = omega arith in
-      let there : r < length all = simp (length-map, length-take) (omega arith) in
-      List·getD-append (take i all) (replicate (16 - i) 0) 0 r inside
-      ∙ getD-take i all r 0 h
-      ∙ getD-any all r 0 (f (actionAt s zeroView)) there
-      ∙ List·getD-map f (map (actionAt s) counted) r (actionAt s zeroView)
-      ∙ ap f (List·getD-map (actionAt s) counted r zeroView ∙ ap (actionAt s) (getD-take (p .count) (p .views) r zeroView early))
+-- each of them is that one's
+pub amount-at : {A : Type 0} (f : A → ℕ) (l : List A) (i : ℕ) (d : A) → i < length l → i < 16 → getD (amountsOf (map f l) .list) i 0 ≡ f (getD l i d)
+unfolding amountsOf
+amount-at f l i d h room =
+    let all = map f l in
+    let there : i < length all = simp length-map h in
+    let inside : i < length (take 16 all) = simp (length-take, length-map) (omega arith) in
+    List·getD-append (take 16 all) (replicate (16 - length all) 0) 0 i inside ∙ getD-take 16 all i 0 room ∙ getD-any all i 0 (f d) there ∙ List·getD-map f l i d
 
-  pub length-laid : i ≤ 16 → i ≤ p .count → i ≤ length (p .views) → length (laid f s p i) ≡ 16
-  unfolding actionsAt viewsIn
-  length-laid room hc hv = simp (length-append, length-take, length-map, length-replicate) (omega arith)
+-- the action of a view
+pub action-at : (s row : List ℕ) (i : ℕ) (v : ActionView) → v ≡ getD (viewsOf row) i zeroView → actionAt s v ≡ getD (actionsIn s row) i (actionAt s zeroView)
+unfolding actionsIn
+action-at s row i v here = ap (actionAt s) here ∙ sym (List·getD-map (actionAt s) (viewsOf row) i zeroView)
 
--- ---- a mint that was summed
-
--- the search for an earlier action, from its test
-module _ (i j : ℕ) (s : Bool) where
-  pub search-goes-on : (leb i j || s) ≡ false → j < i
-  search-goes-on e = go (leb i j) refl e
-    where
-      go : (t : Bool) → leb i j ≡ t → (t || s) ≡ false → j < i
-      go true h n = absurd (let z : _≡_ {A = ℕ} 0 1 = cc in omega arith)
-      go false h n = leb-false i j h
-
-  pub search-ended : (leb i j || s) ≡ true → j < i → s ≡ true
-  search-ended e h = rw (lt-leb i j h) at e
-
-module _ (vault : List ℕ) (before after : List Record) (sol gross : ℕ) (a b : Action) where
-  pub shared-amount : sharesMint a b ≡ true → amountFrom vault before after sol gross a ≡ amountFrom vault before after sol gross b
-  unfolding sharesMint amountFrom
-  shared-amount e =
-      let (tokens, same) = and-eq-true-iff (isToken (b .kind) && isToken (a .kind)) _ .0 e in
-      let (second, first) = and-eq-true-iff (isToken (b .kind)) _ .0 tokens in
-      rw (first, second, same-key-eq (keyOf a) (keyOf b) same)
-
-module _ (s : List ℕ) (v w : ActionView) where
-  pub no-token-shares : isToken (w .kind) ≡ false → sharesMint (actionAt s v) (actionAt s w) ≡ false
-  unfolding sharesMint actionAt
-  no-token-shares e = rw e
-
-  module _ (t : isToken (w .kind) ≡ true) where
-    pub no-token-shared : isToken (v .kind) ≡ false → sharesMint (actionAt s v) (actionAt s w) ≡ false
-    unfolding sharesMint actionAt
-    no-token-shared e = rw (t, e)
-
-    pub tokens-share : isToken (v .kind) ≡ true → sharesMint (actionAt s v) (actionAt s w) ≡ sameKey (keyOf (actionAt s v)) (keyOf (actionAt s w))
-    unfolding sharesMint actionAt
-    tokens-share e = rw (t, e)
+-- the amount of a listed mint that a search found is that of the mint
+pub found-decrease : (f : List ℕ → ℕ) {m : Keys} {key : List ℕ} {n at : ℕ} {k : Key} → Searched m key n at k → length (m .list) ≡ 16 → n ≡ min (m .count) 16
+    → (ltb 0 n && sameKey (k .bytes) key) ≡ true → getD (amountsOf (map f (keysIn m)) .list) at 0 ≡ f key
+found-decrease f {m = m} {key = key} {n = n} {at = at} {k = k} far long all found =
+    let (some, same) = and-eq-true-iff (ltb 0 n) _ .0 found in
+    let inside : at < n = far .within (ltb-true _ _ some) in
+    let listed : at < length (keysIn m) = rw (length-keys m) (omega arith) in
+    amount-at f (keysIn m) at (far .default .bytes) listed (far .room)
+    ∙ ap f (key-at m at (far .default) (omega arith) ∙ ap (λ (x : Key). x .bytes) (sym (far .here)) ∙ same-key-eq (k .bytes) key same)

@@ -1,14 +1,15 @@
 -- Laws of the steps: the first refusal decides, and what was cut is what the steps speak of.
 -- Assumes nothing.
 use mathlib.Core.Path.{_≡_, refl, sym, ap, ap₂, _∙_}
-use mathlib.Core.Bool.{Bool, true, false, not, cond}
+use mathlib.Core.Bool.{Bool, true, false, not, cond, _&&_}
 use mathlib.Core.List.{List, [], _∷_, _++_, map}
 use mathlib.Core.Option.{Option, none, some}
 use Prim.Native.Nat.{ℕ, _+_, _-_, _*_, _<_, _≤_}
 use native.Mathlib.Omega.{arith}
 use borrow.Author.Tests.{eq-eqb, ne-eqb}
 use lib.Dec.{lit<}
-use lib.ListN.{length, take, length-append, length-map}
+use lib.ListN.{length, take, replicate, length-append, length-map}
+use lib.Seq.{take-all}
 use Rattle.answer.specs.declared.Answer.{Answer}
 use Rattle.answer.specs.Numbers.{answer, accepted, accepts, firstRefusal, refuseIf, badTable, badRegion, sessionTokenAuthorityChanged}
 use Rattle.answer.specs.Refusable.{Refusable, given, refused}
@@ -19,28 +20,31 @@ use Rattle.key.specs.Key.{isAmong, keysIn}
 use Rattle.action.specs.declared.Parsed.{Parsed}
 use Rattle.action.specs.Region.{Action, cut, glue, mostActions}
 use Rattle.action.specs.Mints.{isListed, listedMints}
-use Rattle.action.specs.Creation.{inStoredForm, storedActions}
-use Rattle.action.specs.Views.{actionsAt, viewsIn, parsedOf}
-use Rattle.action.proofs.Cuts.{cut-cuts, cut-at-most, actions-of-parsed}
+use Rattle.action.specs.declared.ActionView.{ActionView}
+use Rattle.action.specs.Creation.{inStoredForm, storedAnswer, storedActions}
+use Rattle.action.specs.Views.{placed as placedAt, viewsOf, actionsIn, parsedOf}
+use Rattle.action.proofs.Cuts.{cut-cuts, cut-at-most, rowIn, views-of-parsed, actions-of-parsed}
+use Rattle.action.proofs.Forms.{stored-by-answer}
 use Rattle.action.proofs.Listing.{listed-mints-hold}
 use Rattle.action.proofs.Theorems.{stored-is-formed, stored-is-glued}
 use Rattle.compact.specs.declared.Entry.{Entry}
 use Rattle.compact.specs.declared.Parsed.{Parsed as ReadList}
-use Rattle.compact.specs.Compact.{Instruction, Read, decode, reading, placed, placedOne, refused as noList}
+use Rattle.compact.specs.declared.Programs.{Programs}
+use Rattle.compact.specs.Compact.{Instruction, Read, decode, reading, placed, placedOne, programsIn, programsOf as indexesOf, refused as noList}
+use Rattle.compact.proofs.Indexes.{programs-counted, programs-answer}
 use Rattle.compact.proofs.Places.{entries-held}
 use Rattle.compact.proofs.Reading.{reading-of, outcome}
 use Rattle.account.specs.declared.Places.{Places}
 use Rattle.account.specs.Table.{Record, cutTable}
 use Rattle.account.specs.Views.{recordsIn, placesOf}
 use Rattle.account.proofs.Views.{records-of-places}
-use Rattle.limit.specs.declared.Amounts.{Amounts}
 use Rattle.limit.specs.Limit.{Charge, classAnswer, settled}
 use Rattle.limit.specs.Views.{charges, chargesAt, settledViews, settledAt}
 use Rattle.limit.proofs.Settling.{settle-glued}
 use Rattle.judge.specs.Freeze.{allFrozen}
 use Rattle.judge.specs.Programs.{programsAnswer}
 use Rattle.judge.specs.Judge.{Call, answerOf, recordsBefore, recordsAfter, programsOf, readAnswer, actionsOf, decrease, amountFor, charged, soundness, rules, steps, judged, regionAfter}
-use Rattle.judge.specs.Views.{programsIn, amountFrom, amountsOf, frozenFrom, checksFrom, limitsFrom, rulesFrom}
+use Rattle.judge.specs.Views.{decreaseOf, solAmount, amountFrom, amountsOf, frozenFrom, checksFrom, limitsFrom, rulesFrom}
 use Rattle.judge.proofs.Freezing.{frozen-alike}
 use Rattle.judge.proofs.Lists.{only}
 
@@ -57,23 +61,18 @@ first-append (a ∷ xs) ys = go (accepts a) refl (first-append xs ys)
 
 -- ---- steps 5 to 8, from what was cut
 
-pub mints-frozen : (vault : List ℕ) (before after : List Record) (l : List Action) (mints : Keys) → mints ≡ listedMints l
-    → allFrozen vault (λ (mint : List ℕ). isAmong mint (keysIn mints)) after before ≡ frozenFrom vault before after l
-unfolding frozenFrom
-mints-frozen vault before after l mints e = rw e
-
-module _ (slot : ℕ) (vault : List ℕ) (before after : List Record) (programs : List ℕ) (l : List Action) where
-  pub checks-refused : accepts (programsAnswer slot l before programs) ≡ false → checksFrom slot vault before after programs l ≡ programsAnswer slot l before programs
+module _ (slot : ℕ) (vault : List ℕ) (before after : List Record) (programs : List ℕ) (mints : Keys) (l : List Action) where
+  pub checks-refused : accepts (programsAnswer slot l before programs) ≡ false → checksFrom slot vault before after programs mints l ≡ programsAnswer slot l before programs
   unfolding checksFrom
   checks-refused e = first-refuses _ _ e
 
   module _ (e : accepts (programsAnswer slot l before programs) ≡ true) where
-    pub checks-thawed : frozenFrom vault before after l ≡ false → checksFrom slot vault before after programs l ≡ answer sessionTokenAuthorityChanged
-    unfolding checksFrom
+    pub checks-thawed : allFrozen vault (λ (mint : List ℕ). isAmong mint (keysIn mints)) after before ≡ false → checksFrom slot vault before after programs mints l ≡ answer sessionTokenAuthorityChanged
+    unfolding checksFrom frozenFrom
     checks-thawed f = first-passes _ _ e ∙ rule-broken _ _ _ (lit< tt) (ap not f)
 
-    pub checks-passed : frozenFrom vault before after l ≡ true → checksFrom slot vault before after programs l ≡ answer accepted
-    unfolding checksFrom
+    pub checks-passed : allFrozen vault (λ (mint : List ℕ). isAmong mint (keysIn mints)) after before ≡ true → checksFrom slot vault before after programs mints l ≡ answer accepted
+    unfolding checksFrom frozenFrom
     checks-passed f = first-passes _ _ e ∙ rule-holds _ _ _ (ap not f) ∙ no-rule
 
 module _ (slot : ℕ) (cs : List Charge) where
@@ -92,17 +91,17 @@ module _ (slot : ℕ) (vault : List ℕ) (before after : List Record) (programs 
   no-rules (a ∷ l) h = absurd (let z : _≡_ {A = ℕ} 0 1 = omega arith in omega arith)
 
   some-rules : (l : List Action) → 0 < length l
-      → rulesFrom slot vault before after programs cs l ≡ firstRefusal (checksFrom slot vault before after programs l ∷ limitsFrom slot cs ∷ [])
+      → rulesFrom slot vault before after programs cs l ≡ firstRefusal (checksFrom slot vault before after programs (listedMints l) l ∷ limitsFrom slot cs ∷ [])
   unfolding rulesFrom
   some-rules [] h = absurd (let z : _≡_ {A = ℕ} 0 1 = omega arith in omega arith)
   some-rules (a ∷ l) h = refl
 
   module _ (l : List Action) (h : 0 < length l) where
-    pub rules-unchecked : accepts (checksFrom slot vault before after programs l) ≡ false
-        → rulesFrom slot vault before after programs cs l ≡ checksFrom slot vault before after programs l
+    pub rules-unchecked : accepts (checksFrom slot vault before after programs (listedMints l) l) ≡ false
+        → rulesFrom slot vault before after programs cs l ≡ checksFrom slot vault before after programs (listedMints l) l
     rules-unchecked e = some-rules l h ∙ first-refuses _ _ e
 
-    pub rules-checked : accepts (checksFrom slot vault before after programs l) ≡ true → rulesFrom slot vault before after programs cs l ≡ limitsFrom slot cs
+    pub rules-checked : accepts (checksFrom slot vault before after programs (listedMints l) l) ≡ true → rulesFrom slot vault before after programs cs l ≡ limitsFrom slot cs
     rules-checked e = some-rules l h ∙ first-passes _ _ e ∙ only _
 
 -- ---- the region after
@@ -116,18 +115,22 @@ module _ (a : Answer) (out s : List ℕ) where
 
 -- ---- what was cut
 
-pub no-views-settled : (slot : ℕ) (p : Parsed) (amounts : Amounts) (s : List ℕ) → p .count ≡ 0 → settledAt slot p amounts s ≡ s
-unfolding settledAt settledViews viewsIn
-no-views-settled slot p amounts s e = rw e
+pub no-views-settled : (slot : ℕ) (row amounts s : List ℕ) → length (viewsOf row) ≤ 0 → settledAt slot row amounts s ≡ s
+unfolding settledAt settledViews
+no-views-settled slot row amounts s few = go (viewsOf row) few
+  where
+    go : (vs : List ActionView) → length vs ≤ 0 → settledViews slot vs amounts s ≡ s
+    go [] h = refl
+    go (v ∷ vs) h = absurd (let z : _≡_ {A = ℕ} 0 1 = omega arith in omega arith)
 
 programs-placed : (at : ℕ) (is : List Instruction) → map (λ (e : Entry). e .program) (placed at is) ≡ map (λ (i : Instruction). i .program) is
 unfolding placed placedOne
 programs-placed at [] = refl
 programs-placed at (i ∷ is) = ap (λ (l : List ℕ). i .program ∷ l) (programs-placed _ is)
 
-pub programs-read : (s : List ℕ) → programsIn (reading s .entries) ≡ programsOf (decode s)
+entries-read : (s : List ℕ) → programsIn (reading s .entries) ≡ programsOf (decode s)
 unfolding programsIn outcome noList
-programs-read s = go (decode s) refl
+entries-read s = go (decode s) refl
   where
     go : (o : Option (Read (List Instruction))) → decode s ≡ o → programsIn (reading s .entries) ≡ programsOf o
     go none e = ap (λ (r : ReadList). programsIn (r .entries)) (reading-of s none e) ∙ ap (map (λ (x : Entry). x .program)) (entries-held [])
@@ -136,13 +139,18 @@ programs-read s = go (decode s) refl
         ∙ ap (map (λ (x : Entry). x .program)) (entries-held (placed 1 (d .value)))
         ∙ programs-placed 1 (d .value)
 
-pub read-answer : (s : List ℕ) → reading s .answer ≡ readAnswer (decode s)
+-- the row of program indexes that was read is that of the list
+pub programs-read : (s : List ℕ) (p : Programs) (row : List ℕ) → p ≡ indexesOf (reading s) → row ≡ take (p .count) (p .list) → row ≡ programsOf (decode s)
+programs-read s p row e r =
+    r ∙ ap (λ (x : Programs). take (x .count) (x .list)) e ∙ programs-counted (reading s) ∙ entries-read s
+
+pub read-answer : (s : List ℕ) (p : Programs) → p ≡ indexesOf (reading s) → p .answer ≡ readAnswer (decode s)
 unfolding outcome noList
-read-answer s = go (decode s) refl
+read-answer s p e = ap (λ (x : Programs). x .answer) e ∙ programs-answer (reading s) ∙ go (decode s) refl
   where
     go : (o : Option (Read (List Instruction))) → decode s ≡ o → reading s .answer ≡ readAnswer o
-    go none e = ap (λ (r : ReadList). r .answer) (reading-of s none e)
-    go (some d) e = ap (λ (r : ReadList). r .answer) (reading-of s (some d) e)
+    go none q = ap (λ (r : ReadList). r .answer) (reading-of s none q)
+    go (some d) q = ap (λ (r : ReadList). r .answer) (reading-of s (some d) q)
 
 pub records-before : (call : Call) (p : Places) (row : List ℕ) → p ≡ placesOf (cutTable (call .before)) → row ≡ take (2 * p .count) (p .list)
     → recordsIn (call .before) row ≡ recordsBefore call
@@ -159,10 +167,20 @@ unfolding placesOf
 table-answer (given l) = refl
 table-answer (refused r) = refl
 
-pub region-answer : (x : Refusable (List Action)) → parsedOf x .answer ≡ answerOf x
-unfolding parsedOf
-region-answer (given l) = refl
-region-answer (refused r) = refl
+-- what is answered to a region that was cut is the answer of its stored form
+pub region-answer : (s : List ℕ) (p : Parsed) (row : List ℕ) (a : Answer) → p ≡ parsedOf (cut mostActions s) → row ≡ rowIn p
+    → a ≡ storedAnswer (p .answer) (actionsIn s row) → a ≡ answerOf (storedActions s)
+unfolding storedAnswer
+region-answer s p row a ep er ea =
+    go (accepts (p .answer)) refl (inStoredForm (actionsIn s (rowIn p))) refl
+  where
+    go : (t : Bool) → accepts (p .answer) ≡ t → (f : Bool) → inStoredForm (actionsIn s (rowIn p)) ≡ f → a ≡ answerOf (storedActions s)
+    go t e f k = ea ∙ rw (er, e, k, stored-by-answer s p ep t e f k) (same t f)
+      where
+        same : (t f : Bool) → refuseIf (not (t && f)) badRegion ≡ answerOf (cond (t && f) (given (actionsIn s (rowIn p))) (refused (answer badRegion)))
+        same true true = refl
+        same true false = refl
+        same false f = refl
 
 -- a region that is refused is refused with 15
 pub stored-refusal : (s : List ℕ) (r : Answer) → storedActions s ≡ refused r → r ≡ answer badRegion
@@ -193,21 +211,29 @@ charges-map f [] ys = refl
 charges-map f (a ∷ l) ys = ap (λ (cs : List Charge). record { act = a; amount = f a } ∷ cs) (charges-map f l ys)
 
 -- the amounts that the code has for some actions, from the records before and after
-abbrev pub amountsFrom : Call → List Record → List Record → ℕ → List Action → Amounts
-amountsFrom call before after sol l = amountsOf (map (amountFrom (call .vault) before after sol (call .gross)) l)
+abbrev pub amountsFrom : Call → List Record → List Record → ℕ → List Action → List ℕ
+amountsFrom call before after sol l = amountsOf (map (amountFrom (call .vault) before after sol (call .gross)) l) .list
 
-abbrev amountsFor : Call → List Action → Amounts
+abbrev amountsFor : Call → List Action → List ℕ
 amountsFor call l = amountsFrom call (recordsBefore call) (recordsAfter call) (decrease (call .lamportsBefore) (call .lamportsAfter)) l
 
-charges-are : (call : Call) (l : List Action) → charges l (amountsFor call l .list) ≡ charged call l
-unfolding amountsOf charged amountFor amountFrom
-charges-are call l = charges-map (amountFor call) l _
+-- those of at most sixteen actions are there
+amounts-there : (call : Call) (l : List Action) → length l ≤ 16 → amountsFor call l ≡ map (amountFor call) l ++ replicate (16 - length l) 0
+unfolding amountsOf amountFor amountFrom decreaseOf solAmount
+amounts-there call l few =
+    let all = map (amountFor call) l in
+    let size : length all ≡ length l = simp length-map in
+    rw (take-all 16 all (omega arith), size)
+
+charges-are : (call : Call) (l : List Action) → length l ≤ 16 → charges l (amountsFor call l) ≡ charged call l
+unfolding charged
+charges-are call l few = ap (charges l) (amounts-there call l few) ∙ charges-map (amountFor call) l _
 
 -- ---- the steps of a call
 
 module _ (call : Call) where
   rules-are : (l : List Action)
-      → frozenFrom (call .vault) (recordsBefore call) (recordsAfter call) l ≡ allFrozen (call .vault) (λ (mint : List ℕ). isListed mint l) (recordsAfter call) (recordsBefore call)
+      → frozenFrom (call .vault) (recordsBefore call) (recordsAfter call) (listedMints l) ≡ allFrozen (call .vault) (λ (mint : List ℕ). isListed mint l) (recordsAfter call) (recordsBefore call)
       → rulesFrom (call .slot) (call .vault) (recordsBefore call) (recordsAfter call) (programsOf (decode (call .instructions))) (charged call l) l
       ≡ firstRefusal (elim l [ [] ↦ [] | a ∷ k ↦ rules call (a ∷ k) ])
   unfolding rulesFrom checksFrom limitsFrom rules
@@ -225,7 +251,7 @@ module _ (region : List ℕ) (call : Call) (l : List Action) (stored : storedAct
   at-most-16 : length l ≤ 16
   at-most-16 = cut-at-most (cut-cuts mostActions region l (stored-is-formed region l stored .0))
 
-  listed : frozenFrom (call .vault) (recordsBefore call) (recordsAfter call) l
+  listed : frozenFrom (call .vault) (recordsBefore call) (recordsAfter call) (listedMints l)
       ≡ allFrozen (call .vault) (λ (mint : List ℕ). isListed mint l) (recordsAfter call) (recordsBefore call)
   unfolding frozenFrom
   listed =
@@ -233,14 +259,15 @@ module _ (region : List ℕ) (call : Call) (l : List Action) (stored : storedAct
       (λ m. listed-mints-hold m l (stored-is-formed region l stored .1 .lengths) at-most-16)
       (recordsAfter call) (recordsBefore call)
 
-  settled-are : Bytes region → settledAt (call .slot) (parsedOf (given l)) (amountsFor call l) region ≡ glue (map (settled (call .slot)) (charged call l))
-  unfolding amountsOf
-  settled-are bytes =
+  settled-are : Bytes region → (row : List ℕ) → viewsOf row ≡ placedAt 0 l
+      → settledAt (call .slot) row (amountsFor call l) region ≡ glue (map (settled (call .slot)) (charged call l))
+  settled-are bytes row views =
       let amounts = amountsFor call l in
-      let long : length l ≤ length (amounts .list) = simp (length-append, length-map) (omega arith) in
-      ap (settledAt (call .slot) (parsedOf (given l)) amounts) (sym (stored-is-glued region l bytes stored))
-      ∙ settle-glued (call .slot) l amounts long
-      ∙ ap (λ (cs : List Charge). glue (map (settled (call .slot)) cs)) (charges-are call l)
+      let few = at-most-16 in
+      let long : length l ≤ length amounts = rw (amounts-there call l few) (simp (length-append, length-map) (omega arith)) in
+      ap (settledAt (call .slot) row amounts) (sym (stored-is-glued region l bytes stored))
+      ∙ settle-glued (call .slot) l row amounts views long
+      ∙ ap (λ (cs : List Charge). glue (map (settled (call .slot)) cs)) (charges-are call l few)
 
 -- ---- the whole call
 
@@ -291,27 +318,29 @@ module _ (region : List ℕ) (call : Call) where
 
           module _ (r : accepts (answerOf (storedActions region)) ≡ true) (bytes : Bytes region) where
             -- what is answered and written of what was cut is what the call answers and writes
-            pub judged-cut : (answered : Answer) (out : List ℕ) (p : Parsed) (before after : List Record) (programs : List ℕ) (sol : ℕ)
-                → p ≡ parsedOf (storedActions region) → before ≡ recordsBefore call → after ≡ recordsAfter call → programs ≡ programsOf (decode (call .instructions))
-                → sol ≡ decrease (call .lamportsBefore) (call .lamportsAfter)
-                → answered ≡ rulesFrom (call .slot) (call .vault) before after programs (chargesAt region p (amountsFrom call before after sol (actionsAt region p))) (actionsAt region p)
-                → out ≡ cond (accepts answered) (settledAt (call .slot) p (amountsFrom call before after sol (actionsAt region p)) region) region
+            pub judged-cut : (answered : Answer) (out : List ℕ) (p : Parsed) (row : List ℕ) (before after : List Record) (programs : List ℕ) (sol : ℕ)
+                → p ≡ parsedOf (cut mostActions region) → row ≡ rowIn p → before ≡ recordsBefore call → after ≡ recordsAfter call
+                → programs ≡ programsOf (decode (call .instructions)) → sol ≡ decrease (call .lamportsBefore) (call .lamportsAfter)
+                → answered ≡ rulesFrom (call .slot) (call .vault) before after programs (chargesAt region row (amountsFrom call before after sol (actionsIn region row))) (actionsIn region row)
+                → out ≡ cond (accepts answered) (settledAt (call .slot) row (amountsFrom call before after sol (actionsIn region row)) region) region
                 → (answered ≡ judged region call) × (out ≡ regionAfter region call)
             unfolding chargesAt regionAfter
-            judged-cut answered out p before after programs sol ep eb ea eq es said wrote =
+            judged-cut answered out p row before after programs sol ep er eb ea eq es said wrote =
                 let (l, stored) = stored-given region (storedActions region) refl r in
-                let amounts = amountsFrom call before after sol (actionsAt region p) in
-                let views : p ≡ parsedOf (given l) = ep ∙ ap parsedOf stored in
-                let named : actionsAt region p ≡ l = ap (actionsAt region) views ∙ actions-of-parsed region l (stored-is-formed region l stored .0) in
-                let cs : chargesAt region p amounts ≡ charged call l = rw (named, eb, ea, es) (charges-are call l) in
-                let rules-said : rulesFrom (call .slot) (call .vault) before after programs (chargesAt region p amounts) (actionsAt region p)
+                let amounts = amountsFrom call before after sol (actionsIn region row) in
+                let formed = stored-is-formed region l stored .0 in
+                let whole : row ≡ rowIn (parsedOf (given l)) = er ∙ ap rowIn (ep ∙ ap parsedOf formed) in
+                let named : actionsIn region row ≡ l = ap (actionsIn region) whole ∙ actions-of-parsed region l formed in
+                let views : viewsOf row ≡ placedAt 0 l = ap viewsOf whole ∙ views-of-parsed region l formed in
+                let cs : chargesAt region row amounts ≡ charged call l = rw (named, eb, ea, es) (charges-are call l (at-most-16 region call l stored)) in
+                let rules-said : rulesFrom (call .slot) (call .vault) before after programs (chargesAt region row amounts) (actionsIn region row)
                 ≡ rulesFrom (call .slot) (call .vault) (recordsBefore call) (recordsAfter call) (programsOf (decode (call .instructions))) (charged call l) l =
                 rw (cs, named, eb, ea, eq) in
                 let all : judged region call ≡ firstRefusal (elim l [ [] ↦ [] | a ∷ k ↦ rules call (a ∷ k) ]) =
                 judged-soundly r ∙ ap (λ (x : Refusable (List Action)). firstRefusal (elim (actionsOf x) [ [] ↦ [] | a ∷ k ↦ rules call (a ∷ k) ])) stored in
                 let same : answered ≡ judged region call = said ∙ rules-said ∙ rules-are call l (listed region call l stored) ∙ sym all in
-                let settles : settledAt (call .slot) p amounts region ≡ glue (map (settled (call .slot)) (charged call l)) =
-                rw (named, views, eb, ea, es) (settled-are region call l stored bytes) in
-                let after-all : settledAt (call .slot) p amounts region ≡ glue (map (settled (call .slot)) (charged call (actionsOf (storedActions region)))) =
+                let settles : settledAt (call .slot) row amounts region ≡ glue (map (settled (call .slot)) (charged call l)) =
+                rw (named, eb, ea, es) (settled-are region call l stored bytes row views) in
+                let after-all : settledAt (call .slot) row amounts region ≡ glue (map (settled (call .slot)) (charged call (actionsOf (storedActions region)))) =
                 settles ∙ ap (λ (x : Refusable (List Action)). glue (map (settled (call .slot)) (charged call (actionsOf x)))) (sym stored) in
                 (same, wrote ∙ ap₂ (λ (x : Answer) (y : List ℕ). cond (accepts x) y region) same after-all)

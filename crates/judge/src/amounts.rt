@@ -1,25 +1,31 @@
 // The amount that each action's rule looks at.
 use action::ActionView;
 use action::MAX_ACTIONS;
-use action::Parsed;
 use action::SOL_MAX_PER_TX;
 use action::fields::is_token;
 use action::fields::key_of;
-use action::form::counted;
-use limit::Amounts;
+use action::row::action_in;
+use action::row::how_many;
+use key::Key;
+use key::Keys;
 use number::floored_difference;
 use token::balance;
 ghost use mathlib.Core.Path.{_≡_};
-ghost use mathlib.Core.Bool.{_||_};
+ghost use mathlib.Core.Bool.{true};
 ghost use mathlib.Core.List.{map};
-ghost use Prim.Native.Nat.{_<_, _≤_};
-ghost use lib.Dec.{leb};
-ghost use lib.ListN.{length, getD};
-ghost use Rattle.token.specs.Tokens.{balance as balanceOf};
+ghost use Prim.Native.Nat.{min};
+ghost use lib.ListN.{length};
+ghost use Rattle.key.specs.Key.{keysIn};
 ghost use Rattle.account.specs.Views.{recordsIn};
-ghost use Rattle.action.specs.Views.{actionAt, actionsAt};
-ghost use Rattle.judge.specs.Judge.{decrease};
-ghost use Rattle.judge.specs.Views.{sharesMint, amountFrom, amountsOf};
+ghost use Rattle.action.specs.Region.{mostActions};
+ghost use Rattle.action.specs.Fields.{keyOf};
+ghost use Rattle.action.specs.Views.{viewsOf, actionAt, actionsIn};
+ghost use Rattle.judge.specs.Views.{decreaseOf, solAmount, amountFrom, amountsOf};
+
+// At most sixteen amounts, of actions or of mints; zeros past the last.
+pub struct Sums {
+    pub list: [u64; 16],
+}
 
 // How much the vault's balance of a mint went down.
 fn token_decrease(
@@ -30,14 +36,62 @@ fn token_decrease(
     vault: &[u8],
     mint: &[u8],
 ) -> u64
-    ensures { λ r. ⌜ r ≡ decrease (balanceOf (now (vault .entry)) (now (mint .entry)) (recordsIn (now (before .entry)) (now («before_places» .entry)))) (balanceOf (now (vault .entry)) (now (mint .entry)) (recordsIn (now (after .entry)) (now («after_places» .entry)))) ⌝ }
+    ensures { λ r. ⌜ r ≡ decreaseOf (now (vault .entry)) (recordsIn (now (before .entry)) (now («before_places» .entry))) (recordsIn (now (after .entry)) (now («after_places» .entry))) (now (mint .entry)) ⌝ }
 {
     let had = balance(before, before_places, vault, mint);
     let has = balance(after, after_places, vault, mint);
     floored_difference(had, has)
 }
 
-fn amount_for(
+fn key_decrease(
+    before: &[u8],
+    before_places: &[usize],
+    after: &[u8],
+    after_places: &[usize],
+    vault: &[u8],
+    key: Key,
+) -> u64
+    ensures { λ r. ⌜ r ≡ decreaseOf (now (vault .entry)) (recordsIn (now (before .entry)) (now («before_places» .entry))) (recordsIn (now (after .entry)) (now («after_places» .entry))) (key .bytes) ⌝ }
+{
+    let mint = key.bytes;
+    token_decrease(before, before_places, after, after_places, vault, &mint)
+}
+
+// How much the balance of each listed mint went down: each is summed once, whatever the number of its
+// limits.
+fn mint_decreases(
+    before: &[u8],
+    before_places: &[usize],
+    after: &[u8],
+    after_places: &[usize],
+    vault: &[u8],
+    mints: Keys,
+) -> Sums
+    ensures { λ r. ⌜ r ≡ amountsOf (map (decreaseOf (now (vault .entry)) (recordsIn (now (before .entry)) (now («before_places» .entry))) (recordsIn (now (after .entry)) (now («after_places» .entry)))) (keysIn mints)) ⌝ }
+{
+    let n = key::counted(mints.count);
+    let mut list = [0u64; MAX_ACTIONS];
+    let mut i = 0;
+    while i < n {
+        let k = mints.list[i];
+        let decrease = key_decrease(before, before_places, after, after_places, vault, k);
+        list[i] = decrease;
+        i += 1;
+    }
+    Sums { list }
+}
+
+// What the rule of an action on SOL looks at.
+fn sol_amount(kind: u8, sol: u64, gross: u64) -> u64
+    ensures { λ r. ⌜ r ≡ solAmount sol gross kind ⌝ }
+{
+    if kind == SOL_MAX_PER_TX { gross } else { sol }
+}
+
+// What the rule of one action looks at, where the decrease of its mint is known if the mint is listed.
+fn amount_known(
+    known: u64,
+    is_listed: bool,
     region: &[u8],
     view: ActionView,
     before: &[u8],
@@ -48,86 +102,38 @@ fn amount_for(
     sol: u64,
     gross: u64,
 ) -> u64
+    requires { ⌜ («is_listed» ≡ true → known ≡ decreaseOf (now vault) (recordsIn (now before) (now «before_places»)) (recordsIn (now after) (now «after_places»)) (keyOf (actionAt (now region) view))) ⌝ }
     ensures { λ r. ⌜ r ≡ amountFrom (now (vault .entry)) (recordsIn (now (before .entry)) (now («before_places» .entry))) (recordsIn (now (after .entry)) (now («after_places» .entry))) sol gross (actionAt (now (region .entry)) view) ⌝ }
-{
-    if is_token(view.kind) {
-        return token_decrease(
-            before,
-            before_places,
-            after,
-            after_places,
-            vault,
-            key_of(region, view),
-        );
-    }
-    if view.kind == SOL_MAX_PER_TX {
-        return gross;
-    }
-    sol
-}
-
-fn shares_mint(region: &[u8], other: ActionView, view: ActionView) -> bool
-    ensures { λ r. ⌜ r ≡ sharesMint (actionAt (now (region .entry)) other) (actionAt (now (region .entry)) view) ⌝ }
 {
     if !is_token(view.kind) {
-        return false;
+        return sol_amount(view.kind, sol, gross);
     }
-    if !is_token(other.kind) {
-        return false;
+    if is_listed {
+        return known;
     }
-    key::same_key(key_of(region, other), key_of(region, view))
-}
-
-// Whether the search for an earlier action ends: at the action's own place, or at one that shares its
-// mint.
-fn ends(region: &[u8], other: ActionView, view: ActionView, found: usize, i: usize) -> bool
-    ensures { λ r. ⌜ r ≡ (leb i found || sharesMint (actionAt (now (region .entry)) other) (actionAt (now (region .entry)) view)) ⌝ }
-{
-    if i <= found {
-        return true;
-    }
-    shares_mint(region, other, view)
-}
-
-// An action's amount: the one that is known where an earlier action shares its mint, so that a mint is
-// summed once.
-fn amount_known(
-    known: &[u64],
-    found: usize,
-    i: usize,
-    region: &[u8],
-    view: ActionView,
-    before: &[u8],
-    before_places: &[usize],
-    after: &[u8],
-    after_places: &[usize],
-    vault: &[u8],
-    sol: u64,
-    gross: u64,
-) -> u64
-    requires { ⌜ (i ≤ length (now known)) × (found < i → getD (now known) found 0 ≡ amountFrom (now vault) (recordsIn (now before) (now «before_places»)) (recordsIn (now after) (now «after_places»)) sol gross (actionAt (now region) view)) ⌝ }
-    ensures { λ r. ⌜ r ≡ amountFrom (now (vault .entry)) (recordsIn (now (before .entry)) (now («before_places» .entry))) (recordsIn (now (after .entry)) (now («after_places» .entry))) sol gross (actionAt (now (region .entry)) view) ⌝ }
-{
-    if found < i {
-        return known[found];
-    }
-    amount_for(
-        region,
-        view,
+    token_decrease(
         before,
         before_places,
         after,
         after_places,
         vault,
-        sol,
-        gross,
+        key_of(region, view),
     )
 }
 
-// An amount for each action of the region: `sol` is the decrease in lamports, `gross` the gross outflow.
+// How many actions of a row have an amount.
+fn counted(actions: &[u64]) -> usize
+    ensures { λ r. ⌜ r ≡ min (length (viewsOf (now (actions .entry)))) mostActions ⌝ }
+{
+    let n = how_many(actions);
+    if n < MAX_ACTIONS { n } else { MAX_ACTIONS }
+}
+
+// An amount for each action of the region, its mint looked up among the listed ones: `sol` is the
+// decrease in lamports, `gross` the gross outflow.
 pub fn amounts(
     region: &[u8],
-    parsed: Parsed,
+    actions: &[u64],
     before: &[u8],
     before_places: &[usize],
     after: &[u8],
@@ -135,24 +141,27 @@ pub fn amounts(
     vault: &[u8],
     sol: u64,
     gross: u64,
-) -> Amounts
-    ensures { λ r. ⌜ r ≡ amountsOf (map (amountFrom (now (vault .entry)) (recordsIn (now (before .entry)) (now («before_places» .entry))) (recordsIn (now (after .entry)) (now («after_places» .entry))) sol gross) (actionsAt (now (region .entry)) parsed)) ⌝ }
+    mints: Keys,
+) -> Sums
+    ensures { λ r. ⌜ r ≡ amountsOf (map (amountFrom (now (vault .entry)) (recordsIn (now (before .entry)) (now («before_places» .entry))) (recordsIn (now (after .entry)) (now («after_places» .entry))) sol gross) (actionsIn (now (region .entry)) (now (actions .entry)))) ⌝ }
 {
-    let n = counted(parsed);
+    let decreases = mint_decreases(before, before_places, after, after_places, vault, mints);
+    let count = key::counted(mints.count);
+    let n = counted(actions);
     let mut list = [0u64; MAX_ACTIONS];
     let mut i = 0;
     while i < n {
-        let view = parsed.views[i];
-        let mut found = 0;
-        let mut other = parsed.views[0];
-        while !ends(region, other, view, found, i) {
-            found += 1;
-            other = parsed.views[found];
+        let view = action_in(actions, i);
+        let mint = key_of(region, view);
+        let mut at = 0;
+        let mut k = mints.list[0];
+        while k.goes_on(mint, at, count) {
+            at += 1;
+            k = mints.list[at];
         }
         let amount = amount_known(
-            &list,
-            found,
-            i,
+            decreases.list[at],
+            k.is_found(mint, count),
             region,
             view,
             before,
@@ -166,5 +175,5 @@ pub fn amounts(
         list[i] = amount;
         i += 1;
     }
-    Amounts { list }
+    Sums { list }
 }

@@ -4,17 +4,19 @@ use crate::freeze::verify_token_authorities_unchanged;
 use crate::programs::evaluate_pre_actions;
 use account::fields::places_in;
 use account::parse::cut_places;
-use action::Parsed;
-use action::form::stored_actions;
+use action::form::stored_answer;
 use action::mints::listed_mints;
+use action::parse::parse_actions;
+use action::row::actions_in;
+use action::row::how_many;
 use answer::ACCEPTED;
 use answer::Answer;
 use answer::BAD_TABLE;
 use answer::SESSION_TOKEN_AUTHORITY_CHANGED;
-use compact::Entries;
-use compact::parse_compact_instructions;
+use compact::parse_programs;
+use compact::programs_in;
 use key::KEY_LENGTH;
-use limit::Amounts;
+use key::Keys;
 use limit::class_answer;
 use limit::settle;
 use number::floored_difference;
@@ -23,52 +25,37 @@ ghost use mathlib.Core.Bool.{cond};
 ghost use mathlib.Core.List.{map};
 ghost use Rattle.answer.specs.Numbers.{accepts};
 ghost use Rattle.account.specs.Views.{recordsIn};
-ghost use Rattle.action.specs.Views.{actionsAt};
+ghost use Rattle.action.specs.Views.{actionsIn};
 ghost use Rattle.limit.specs.Views.{chargesAt, settledAt};
 ghost use Rattle.judge.specs.Judge.{judged, regionAfter};
-ghost use Rattle.judge.specs.Views.{programsIn, amountFrom, amountsOf, frozenFrom, checksFrom, limitsFrom, rulesFrom};
-
-fn frozen(
-    region: &[u8],
-    parsed: Parsed,
-    before: &[u8],
-    before_places: &[usize],
-    after: &[u8],
-    after_places: &[usize],
-    vault: &[u8],
-) -> bool
-    ensures { λ r. ⌜ r ≡ frozenFrom (now (vault .entry)) (recordsIn (now (before .entry)) (now («before_places» .entry))) (recordsIn (now (after .entry)) (now («after_places» .entry))) (actionsAt (now (region .entry)) parsed) ⌝ }
-{
-    let mints = listed_mints(region, parsed);
-    verify_token_authorities_unchanged(before, before_places, after, after_places, vault, mints)
-}
+ghost use Rattle.judge.specs.Views.{amountFrom, amountsOf, checksFrom, limitsFrom, rulesFrom};
 
 // Steps 5 and 6: the programs and the freeze.
 fn checks_answer(
     region: &[u8],
-    parsed: Parsed,
+    actions: &[u64],
     before: &[u8],
     before_places: &[usize],
     after: &[u8],
     after_places: &[usize],
-    entries: Entries,
+    programs: &[usize],
     vault: &[u8],
     slot: u64,
+    mints: Keys,
 ) -> Answer
-    ensures { λ r. ⌜ r ≡ checksFrom slot (now (vault .entry)) (recordsIn (now (before .entry)) (now («before_places» .entry))) (recordsIn (now (after .entry)) (now («after_places» .entry))) (programsIn entries) (actionsAt (now (region .entry)) parsed) ⌝ }
+    ensures { λ r. ⌜ r ≡ checksFrom slot (now (vault .entry)) (recordsIn (now (before .entry)) (now («before_places» .entry))) (recordsIn (now (after .entry)) (now («after_places» .entry))) (now (programs .entry)) mints (actionsIn (now (region .entry)) (now (actions .entry))) ⌝ }
 {
-    let programs = evaluate_pre_actions(region, parsed, before, before_places, entries, slot);
-    if !programs.accepts() {
-        return programs;
+    let listed = evaluate_pre_actions(region, actions, before, before_places, programs, slot);
+    if !listed.accepts() {
+        return listed;
     }
-    if !frozen(
-        region,
-        parsed,
+    if !verify_token_authorities_unchanged(
         before,
         before_places,
         after,
         after_places,
         vault,
+        mints,
     ) {
         return Answer::of(SESSION_TOKEN_AUTHORITY_CHANGED);
     }
@@ -76,52 +63,54 @@ fn checks_answer(
 }
 
 // Steps 7 and 8: the SOL rules, then the token rules.
-fn limits_answer(region: &[u8], parsed: Parsed, amounts: Amounts, slot: u64) -> Answer
-    ensures { λ r. ⌜ r ≡ limitsFrom slot (chargesAt (now (region .entry)) parsed amounts) ⌝ }
+fn limits_answer(region: &[u8], actions: &[u64], amounts: &[u64], slot: u64) -> Answer
+    ensures { λ r. ⌜ r ≡ limitsFrom slot (chargesAt (now (region .entry)) (now (actions .entry)) (now (amounts .entry))) ⌝ }
 {
-    let sol = class_answer(region, parsed, amounts, false, slot);
+    let sol = class_answer(region, actions, amounts, false, slot);
     if !sol.accepts() {
         return sol;
     }
-    class_answer(region, parsed, amounts, true, slot)
+    class_answer(region, actions, amounts, true, slot)
 }
 
 // Steps 4 to 9, on what was cut; an empty region has no rules.
 fn judge_cut(
     region: &mut [u8],
-    parsed: Parsed,
+    actions: &[u64],
     before: &[u8],
     before_places: &[usize],
     after: &[u8],
     after_places: &[usize],
-    entries: Entries,
+    programs: &[usize],
     vault: &[u8],
     slot: u64,
     sol: u64,
     gross: u64,
 ) -> Answer
-    ensures { λ r. ⌜ (r ≡ rulesFrom slot (now (vault .entry)) (recordsIn (now (before .entry)) (now («before_places» .entry))) (recordsIn (now (after .entry)) (now («after_places» .entry))) (programsIn entries) (chargesAt (now (region .entry)) parsed (amountsOf (map (amountFrom (now (vault .entry)) (recordsIn (now (before .entry)) (now («before_places» .entry))) (recordsIn (now (after .entry)) (now («after_places» .entry))) sol gross) (actionsAt (now (region .entry)) parsed)))) (actionsAt (now (region .entry)) parsed)) × (now (region .exit) ≡ cond (accepts r) (settledAt slot parsed (amountsOf (map (amountFrom (now (vault .entry)) (recordsIn (now (before .entry)) (now («before_places» .entry))) (recordsIn (now (after .entry)) (now («after_places» .entry))) sol gross) (actionsAt (now (region .entry)) parsed))) (now (region .entry))) (now (region .entry))) ⌝ }
+    ensures { λ r. ⌜ (r ≡ rulesFrom slot (now (vault .entry)) (recordsIn (now (before .entry)) (now («before_places» .entry))) (recordsIn (now (after .entry)) (now («after_places» .entry))) (now (programs .entry)) (chargesAt (now (region .entry)) (now (actions .entry)) (amountsOf (map (amountFrom (now (vault .entry)) (recordsIn (now (before .entry)) (now («before_places» .entry))) (recordsIn (now (after .entry)) (now («after_places» .entry))) sol gross) (actionsIn (now (region .entry)) (now (actions .entry)))) .list)) (actionsIn (now (region .entry)) (now (actions .entry)))) × (now (region .exit) ≡ cond (accepts r) (settledAt slot (now (actions .entry)) (amountsOf (map (amountFrom (now (vault .entry)) (recordsIn (now (before .entry)) (now («before_places» .entry))) (recordsIn (now (after .entry)) (now («after_places» .entry))) sol gross) (actionsIn (now (region .entry)) (now (actions .entry)))) .list) (now (region .entry))) (now (region .entry))) ⌝ }
 {
-    if parsed.count == 0 {
+    if how_many(actions) == 0 {
         return Answer::of(ACCEPTED);
     }
+    let mints = listed_mints(region, actions);
     let checks = checks_answer(
         region,
-        parsed,
+        actions,
         before,
         before_places,
         after,
         after_places,
-        entries,
+        programs,
         vault,
         slot,
+        mints,
     );
     if !checks.accepts() {
         return checks;
     }
     let amounts = amounts(
         region,
-        parsed,
+        actions,
         before,
         before_places,
         after,
@@ -129,12 +118,13 @@ fn judge_cut(
         vault,
         sol,
         gross,
+        mints,
     );
-    let limits = limits_answer(region, parsed, amounts, slot);
+    let limits = limits_answer(region, actions, &amounts.list, slot);
     if !limits.accepts() {
         return limits;
     }
-    settle(region, parsed, amounts, slot);
+    settle(region, actions, &amounts.list, slot);
     Answer::of(ACCEPTED)
 }
 
@@ -163,23 +153,25 @@ pub fn judge(
     if !after_cut.answer.accepts() {
         return after_cut.answer;
     }
-    let read = parse_compact_instructions(instructions);
+    let read = parse_programs(instructions);
     if !read.answer.accepts() {
         return read.answer;
     }
-    let parsed = stored_actions(region);
-    if !parsed.answer.accepts() {
-        return parsed.answer;
+    let parsed = parse_actions(region);
+    let actions = actions_in(&parsed.list, parsed.count);
+    let stored = stored_answer(region, parsed.answer, actions);
+    if !stored.accepts() {
+        return stored;
     }
     let sol = floored_difference(lamports_before, lamports_after);
     judge_cut(
         region,
-        parsed,
+        actions,
         before,
         places_in(&before_cut.list, before_cut.count),
         after,
         places_in(&after_cut.list, after_cut.count),
-        read.entries,
+        programs_in(&read.list, read.count),
         vault,
         slot,
         sol,

@@ -4,30 +4,26 @@ use account::fields::view_in;
 use action::ActionView;
 use action::PROGRAM_BLACKLIST;
 use action::PROGRAM_WHITELIST;
-use action::Parsed;
 use action::fields::is_expired;
 use action::fields::key_of;
-use action::form::counted;
 use action::form::how_often;
+use action::row::action_in;
+use action::row::how_many;
 use answer::ACCEPTED;
 use answer::ACTION_PROGRAM_BLACKLISTED;
 use answer::ACTION_PROGRAM_NOT_WHITELISTED;
 use answer::Answer;
 use answer::INVALID_INSTRUCTION_DATA;
-use compact::Entries;
-use compact::MAX_COMPACT_INSTRUCTIONS;
 ghost use mathlib.Core.Path.{_≡_};
 ghost use mathlib.Core.Bool.{not, _&&_};
-ghost use Prim.Native.Nat.{min};
 ghost use lib.Dec.{eqb, ltb};
 ghost use Rattle.key.specs.Key.{sameKey};
 ghost use Rattle.action.specs.Region.{expired, programWhitelist};
 ghost use Rattle.action.specs.Creation.{howOften};
 ghost use Rattle.action.specs.Fields.{keyOf};
-ghost use Rattle.action.specs.Views.{actionAt, actionsAt, kindsIn};
+ghost use Rattle.action.specs.Views.{actionAt, actionsIn, kindsIn};
 ghost use Rattle.account.specs.Views.{recordsIn};
 ghost use Rattle.judge.specs.Programs.{inLiveList, listsAnswer, programAnswer, programsAnswer};
-ghost use Rattle.judge.specs.Views.{programsIn};
 
 // Whether one action is a live entry of a list that has the key.
 fn has_key(region: &[u8], view: ActionView, kind: u8, slot: u64, key: &[u8]) -> bool
@@ -42,13 +38,13 @@ fn has_key(region: &[u8], view: ActionView, kind: u8, slot: u64, key: &[u8]) -> 
     key::same_key(key_of(region, view), key)
 }
 
-fn in_live_list(region: &[u8], parsed: Parsed, kind: u8, slot: u64, key: &[u8]) -> bool
-    ensures { λ r. ⌜ r ≡ inLiveList kind slot (now (key .entry)) (actionsAt (now (region .entry)) parsed) ⌝ }
+fn in_live_list(region: &[u8], actions: &[u64], kind: u8, slot: u64, key: &[u8]) -> bool
+    ensures { λ r. ⌜ r ≡ inLiveList kind slot (now (key .entry)) (actionsIn (now (region .entry)) (now (actions .entry))) ⌝ }
 {
-    let n = counted(parsed);
+    let n = how_many(actions);
     let mut i = 0;
     while i < n {
-        let view = parsed.views[i];
+        let view = action_in(actions, i);
         if has_key(region, view, kind, slot, key) {
             return true;
         }
@@ -57,22 +53,22 @@ fn in_live_list(region: &[u8], parsed: Parsed, kind: u8, slot: u64, key: &[u8]) 
     false
 }
 
-fn not_whitelisted(region: &[u8], parsed: Parsed, slot: u64, key: &[u8]) -> bool
-    ensures { λ r. ⌜ r ≡ (ltb 0 (howOften programWhitelist (kindsIn parsed)) && not (inLiveList programWhitelist slot (now (key .entry)) (actionsAt (now (region .entry)) parsed))) ⌝ }
+fn not_whitelisted(region: &[u8], actions: &[u64], slot: u64, key: &[u8]) -> bool
+    ensures { λ r. ⌜ r ≡ (ltb 0 (howOften programWhitelist (kindsIn (now (actions .entry)))) && not (inLiveList programWhitelist slot (now (key .entry)) (actionsIn (now (region .entry)) (now (actions .entry))))) ⌝ }
 {
-    if how_often(parsed, PROGRAM_WHITELIST) == 0 {
+    if how_often(actions, PROGRAM_WHITELIST) == 0 {
         return false;
     }
-    !in_live_list(region, parsed, PROGRAM_WHITELIST, slot, key)
+    !in_live_list(region, actions, PROGRAM_WHITELIST, slot, key)
 }
 
-fn lists_answer(region: &[u8], parsed: Parsed, slot: u64, key: &[u8]) -> Answer
-    ensures { λ r. ⌜ r ≡ listsAnswer slot (actionsAt (now (region .entry)) parsed) (now (key .entry)) ⌝ }
+fn lists_answer(region: &[u8], actions: &[u64], slot: u64, key: &[u8]) -> Answer
+    ensures { λ r. ⌜ r ≡ listsAnswer slot (actionsIn (now (region .entry)) (now (actions .entry))) (now (key .entry)) ⌝ }
 {
-    if not_whitelisted(region, parsed, slot, key) {
+    if not_whitelisted(region, actions, slot, key) {
         return Answer::of(ACTION_PROGRAM_NOT_WHITELISTED);
     }
-    if in_live_list(region, parsed, PROGRAM_BLACKLIST, slot, key) {
+    if in_live_list(region, actions, PROGRAM_BLACKLIST, slot, key) {
         return Answer::of(ACTION_PROGRAM_BLACKLISTED);
     }
     Answer::of(ACCEPTED)
@@ -80,53 +76,41 @@ fn lists_answer(region: &[u8], parsed: Parsed, slot: u64, key: &[u8]) -> Answer
 
 fn program_answer(
     region: &[u8],
-    parsed: Parsed,
+    actions: &[u64],
     table: &[u8],
     places: &[usize],
     slot: u64,
-    program: u8,
+    program: usize,
 ) -> Answer
-    ensures { λ r. ⌜ r ≡ programAnswer slot (actionsAt (now (region .entry)) parsed) (recordsIn (now (table .entry)) (now (places .entry))) program ⌝ }
+    ensures { λ r. ⌜ r ≡ programAnswer slot (actionsIn (now (region .entry)) (now (actions .entry))) (recordsIn (now (table .entry)) (now (places .entry))) program ⌝ }
 {
-    let index = program as usize;
-    if places.len() / 2 <= index {
+    if places.len() / 2 <= program {
         return Answer::of(INVALID_INSTRUCTION_DATA);
     }
     lists_answer(
         region,
-        parsed,
+        actions,
         slot,
-        record_key(table, view_in(places, index)),
+        record_key(table, view_in(places, program)),
     )
-}
-
-// How many entries there are to look at, whatever the count says.
-fn entries_counted(entries: Entries) -> usize
-    ensures { λ r. ⌜ r ≡ min (entries .count) 16 ⌝ }
-{
-    if entries.count < MAX_COMPACT_INSTRUCTIONS {
-        entries.count
-    } else {
-        MAX_COMPACT_INSTRUCTIONS
-    }
 }
 
 // Each instruction's program in turn; the first failure decides.
 pub fn evaluate_pre_actions(
     region: &[u8],
-    parsed: Parsed,
+    actions: &[u64],
     table: &[u8],
     places: &[usize],
-    entries: Entries,
+    programs: &[usize],
     slot: u64,
 ) -> Answer
-    ensures { λ r. ⌜ r ≡ programsAnswer slot (actionsAt (now (region .entry)) parsed) (recordsIn (now (table .entry)) (now (places .entry))) (programsIn entries) ⌝ }
+    ensures { λ r. ⌜ r ≡ programsAnswer slot (actionsIn (now (region .entry)) (now (actions .entry))) (recordsIn (now (table .entry)) (now (places .entry))) (now (programs .entry)) ⌝ }
 {
-    let n = entries_counted(entries);
+    let n = programs.len();
     let mut i = 0;
     while i < n {
-        let entry = entries.list[i];
-        let answer = program_answer(region, parsed, table, places, slot, entry.program);
+        let program = programs[i];
+        let answer = program_answer(region, actions, table, places, slot, program);
         if !answer.accepts() {
             return answer;
         }

@@ -51,6 +51,16 @@ keys-step l i d hc hl =
     let inside : i < length (take (l .count) all) = simp (length-take, length-map) (omega arith) in
     rw (drop-cons (take (l .count) all) i (d .bytes), getD-take (l .count) all i (d .bytes), List·getD-map (λ (k : Key). k .bytes) (l .list) i d)
 
+pub length-keys : (l : Keys) → length (keysIn l) ≡ min (l .count) (length (l .list))
+unfolding keysIn
+length-keys l = simp (length-take, length-map)
+
+pub key-at : (l : Keys) (i : ℕ) (d : Key) → i < l .count → getD (keysIn l) i (d .bytes) ≡ (getD (l .list) i d) .bytes
+unfolding keysIn
+key-at l i d h =
+    let all = map (λ (k : Key). k .bytes) (l .list) in
+    getD-take (l .count) all i (d .bytes) h ∙ List·getD-map (λ (k : Key). k .bytes) (l .list) i d
+
 pub keys-end : (l : Keys) (i : ℕ) → min (l .count) (length (l .list)) ≤ i → drop i (keysIn l) ≡ []
 unfolding keysIn
 keys-end l i h =

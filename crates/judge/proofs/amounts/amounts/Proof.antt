@@ -1,113 +1,118 @@
--- `judge::amounts::amounts` meets its contract. The loop's invariant: the first `i` amounts are laid. The inner loop looks for an earlier
--- action with the mint, whose amount is then the same.
+-- `judge::amounts::amounts` meets its contract. The loop's invariant: the first `i` amounts are laid. The inner loop's: how far the listed mints
+-- are searched for the action's; where it is found, its decrease is known.
 -- Assumes nothing.
 use Prim.Native.Nat.{ℕ, _+_, _-_, _<_, _≤_, min}
-use mathlib.Core.List.{List}
 use mathlib.Core.Path.{_≡_, refl, sym, ap, _∙_}
+use mathlib.Core.Bool.{true, not, _&&_}
+use mathlib.Core.List.{List}
 use native.Mathlib.Numerals.{add-one}
 use native.Mathlib.Omega.{arith}
-use borrow.Author.Tests.{not-true, not-false}
+use lib.Dec.{ltb}
 use lib.ListN.{length, getD, length-map}
+use Rattle.key.specs.Key.{sameKey}
+use Rattle.key.proofs.Searching.{Searched, search-starts, search-room, search-next}
 use Rattle.account.specs.Views.{recordsIn}
-use Rattle.action.specs.Views.{actionsAt, zeroView}
+use Rattle.action.specs.Views.{viewsOf, actionAt, actionsIn}
 use Rattle.action.proofs.Views.{length-actions}
-use Rattle.judge.specs.Views.{amountFrom}
-use Rattle.judge.proofs.Outflow.{laid, amount-laid, all-laid, laid-at, length-laid, shared-amount, search-goes-on, search-ended}
+use Rattle.judge.specs.declared.amounts.Sums.{Sums}
+use Rattle.judge.specs.Views.{amountFrom, decreaseOf}
+use Rattle.judge.proofs.Outflow.{laid, amount-laid, all-laid, action-at, found-decrease}
 use Rattle.judge.proofs.amounts.amounts.Statement.{statement}
 use Rattle.judge.proofs.amounts.amounts.Tie as tie
 
 abbrev Inv-loop2 : tie.InvT-loop2
-Inv-loop2 region before before-places after after-places vault sol gross parsed n list i view found₀ other₀ found other = (found ≤ i) × (other ≡ getD (parsed .views) found zeroView)
+Inv-loop2 region actions before before-places after after-places vault sol gross mints decreases count n list i view mint at₀ k₀ at k =
+    Searched mints mint count at k
 
 abbrev μ-loop2 : tie.MeasureT-loop2
-μ-loop2 region before before-places after after-places vault sol gross parsed n list i view found₀ other₀ found other = i - found
+μ-loop2 region actions before before-places after after-places vault sol gross mints decreases count n list i view mint at₀ k₀ at k = 16 - at
 
 abbrev Inv-loop : tie.InvT-loop
-Inv-loop region before before-places after after-places vault sol gross parsed n list₀ i₀ list i =
-    (i ≤ n) × (n ≡ min (parsed .count) 16) × (list ≡ laid (amountFrom vault (recordsIn before before-places) (recordsIn after after-places) sol gross) region parsed i)
+Inv-loop region actions before before-places after after-places vault sol gross mints decreases count n list₀ i₀ list i =
+    (i ≤ n) × (n ≡ min (length (viewsOf actions)) 16)
+    × (list ≡ laid (amountFrom vault (recordsIn before before-places) (recordsIn after after-places) sol gross) (actionsIn region actions) i)
 
 abbrev μ-loop : tie.MeasureT-loop
-μ-loop region before before-places after after-places vault sol gross parsed n list₀ i₀ list i = n - i
+μ-loop region actions before before-places after after-places vault sol gross mints decreases count n list₀ i₀ list i = n - i
+
+-- the search goes on, so there is a next mint
+on : (c : tie.At-loop2 Inv-loop2 μ-loop2 Inv-loop μ-loop)
+    → (ltb (c .loop2 .at + 1) (c .before .before .before .before .before .before .before .counted .result)
+    && not (sameKey (c .loop2 .k .bytes) (c .before .before .key-of .result .now)))
+    ≡ true
+    → c .loop2 .at + 1 < 16
+on c goes =
+    let at-loop = c .before .before .before .before .before in
+    let start = at-loop .before .before .before .before .before .before .before .before .before .before .before in
+    let long : length (start .args .t10 .list) ≡ 16 = simp length-map at (start .good .1 .1 .1 .1 .1 .1 .1 .1 .1 .0 .1 .1 .0 .1 .0 .1) in
+    search-room (c .loop2 .inv) long (at-loop .before .before .counted .ensures) goes
+
+mint-decreases-requires : tie.Need-mint-decreases-requires Inv-loop2 μ-loop2 Inv-loop μ-loop
+mint-decreases-requires c κs = tt
 
 counted-requires : tie.Need-counted-requires Inv-loop2 μ-loop2 Inv-loop μ-loop
 counted-requires c κs = tt
 
+counted-requires-2 : tie.Need-counted-requires-2 Inv-loop2 μ-loop2 Inv-loop μ-loop
+counted-requires-2 c κs = tt
+
 loop-holds : tie.Need-loop-holds Inv-loop2 μ-loop2 Inv-loop μ-loop
-loop-holds c = (omega arith, c .counted .ensures, refl)
+loop-holds c = (omega arith, c .counted2 .ensures, refl)
 
-mul-view : tie.Need-mul-view Inv-loop2 μ-loop2 Inv-loop μ-loop
-mul-view c = omega arith
+action-in-requires : tie.Need-action-in-requires Inv-loop2 μ-loop2 Inv-loop μ-loop
+action-in-requires c κs = tt
 
-element-copy-out-view : tie.Need-element-copy-out-view Inv-loop2 μ-loop2 Inv-loop μ-loop
-element-copy-out-view c = omega arith
+key-of-requires : tie.Need-key-of-requires Inv-loop2 μ-loop2 Inv-loop μ-loop
+key-of-requires c κs = tt
 
-element-copy-out-other : tie.Need-element-copy-out-other Inv-loop2 μ-loop2 Inv-loop μ-loop
-element-copy-out-other c = omega arith
+element-copy-out-k : tie.Need-element-copy-out-k Inv-loop2 μ-loop2 Inv-loop μ-loop
+element-copy-out-k c = omega arith
 
 loop2-holds : tie.Need-loop2-holds Inv-loop2 μ-loop2 Inv-loop μ-loop
-loop2-holds c = (omega arith, refl)
+loop2-holds c = search-starts _ _ _ _
 
-ends-requires : tie.Need-ends-requires Inv-loop2 μ-loop2 Inv-loop μ-loop
-ends-requires c κs = tt
+goes-on-requires : tie.Need-goes-on-requires Inv-loop2 μ-loop2 Inv-loop μ-loop
+goes-on-requires c κs = tt
 
-add-found : tie.Need-add-found Inv-loop2 μ-loop2 Inv-loop μ-loop
-add-found c =
-    let at-search = c .before .before in
-    let on : at-search .loop2 .found < at-search .before .before .before .before .loop .i = search-goes-on _ _ _ (sym (c .before .ends .ensures) ∙ not-true _ (c .if1 .taken)) in
-    omega arith
+add-at : tie.Need-add-at Inv-loop2 μ-loop2 Inv-loop μ-loop
+add-at c = omega (arith, on (c .before .before) (sym (c .before .goes-on .ensures) ∙ c .if1 .taken))
 
-mul-other : tie.Need-mul-other Inv-loop2 μ-loop2 Inv-loop μ-loop
-mul-other c =
-    let at-search = c .before .before in
-    let on : at-search .loop2 .found < at-search .before .before .before .before .loop .i = search-goes-on _ _ _ (sym (c .before .ends .ensures) ∙ not-true _ (c .if1 .taken)) in
-    omega arith
+mul-k : tie.Need-mul-k Inv-loop2 μ-loop2 Inv-loop μ-loop
+mul-k c = omega (arith, on (c .before .before) (sym (c .before .goes-on .ensures) ∙ c .if1 .taken))
 
-element-copy-out-other-2 : tie.Need-element-copy-out-other-2 Inv-loop2 μ-loop2 Inv-loop μ-loop
-element-copy-out-other-2 c =
-    let at-search = c .before .before in
-    let on : at-search .loop2 .found < at-search .before .before .before .before .loop .i = search-goes-on _ _ _ (sym (c .before .ends .ensures) ∙ not-true _ (c .if1 .taken)) in
-    omega arith
+element-copy-out-k-2 : tie.Need-element-copy-out-k-2 Inv-loop2 μ-loop2 Inv-loop μ-loop
+element-copy-out-k-2 c = omega (arith, on (c .before .before) (sym (c .before .goes-on .ensures) ∙ c .if1 .taken))
 
 loop2-less : tie.Need-loop2-less Inv-loop2 μ-loop2 Inv-loop μ-loop
-loop2-less c =
-    let at-search = c .before .before .before in
-    let on : at-search .loop2 .found < at-search .before .before .before .before .loop .i = search-goes-on _ _ _ (sym (c .before .before .ends .ensures) ∙ not-true _ (c .before .if1 .taken)) in
-    omega arith
+loop2-less c = omega (arith, on (c .before .before .before) (sym (c .before .before .goes-on .ensures) ∙ c .before .if1 .taken))
 
 loop2-again : tie.Need-loop2-again Inv-loop2 μ-loop2 Inv-loop μ-loop
 loop2-again c =
     let at-search = c .before .before .before in
-    let on : at-search .loop2 .found < at-search .before .before .before .before .loop .i = search-goes-on _ _ _ (sym (c .before .before .ends .ensures) ∙ not-true _ (c .before .if1 .taken)) in
-    (omega arith, refl)
+    let at-loop = at-search .before .before .before .before .before in
+    let start = at-loop .before .before .before .before .before .before .before .before .before .before .before in
+    let long : length (start .args .t10 .list) ≡ 16 = simp length-map at (start .good .1 .1 .1 .1 .1 .1 .1 .1 .1 .0 .1 .1 .0 .1 .0 .1) in
+    search-next (at-search .loop2 .inv) long (at-loop .before .before .counted .ensures) (sym (c .before .before .goes-on .ensures) ∙ c .before .if1 .taken) _
 
-slice-aggregate-amount-known : tie.Need-slice-aggregate-amount-known Inv-loop2 μ-loop2 Inv-loop μ-loop
-slice-aggregate-amount-known c =
-    let at-search = c .before .before .before in
-    let at-loop = at-search .before .before .before .before in
-    let start = at-loop .before .before .before .before .before .before .before .before in
-    let parsed = start .args .t2 in
-    let i = at-loop .loop .i in
-    let long : length (parsed .views) ≡ 16 = simp length-map at (start .good .1 .0 .1 .1 .1 .0 .1 .0 .1) in
-    let whole : length (at-loop .loop .list) ≡ 16 = rw (at-loop .loop .inv .2) (length-laid _ _ parsed i (omega arith) (omega arith) (omega arith)) in
-    omega arith
+mul-amount-known : tie.Need-mul-amount-known Inv-loop2 μ-loop2 Inv-loop μ-loop
+mul-amount-known c = omega arith
+
+element-copy-out-amount-known : tie.Need-element-copy-out-amount-known Inv-loop2 μ-loop2 Inv-loop μ-loop
+element-copy-out-amount-known c = omega arith
+
+is-found-requires : tie.Need-is-found-requires Inv-loop2 μ-loop2 Inv-loop μ-loop
+is-found-requires c κs = tt
 
 amount-known-requires : tie.Need-amount-known-requires Inv-loop2 μ-loop2 Inv-loop μ-loop
-amount-known-requires c κs =
-    let at-search = c .before .before .before in
-    let at-loop = at-search .before .before .before .before in
-    let start = at-loop .before .before .before .before .before .before .before .before in
-    let parsed = start .args .t2 in
-    let i = at-loop .loop .i in
-    let long : length (parsed .views) ≡ 16 = simp length-map at (start .good .1 .0 .1 .1 .1 .0 .1 .0 .1) in
-    let whole : length (at-loop .loop .list) ≡ 16 = rw (at-loop .loop .inv .2) (length-laid _ _ parsed i (omega arith) (omega arith) (omega arith)) in
-    let found = at-search .loop2 .found in (
-      omega arith,
-      λ (early : found < i).
-          ap (λ (l : List ℕ). getD l found 0) (at-loop .loop .inv .2)
-          ∙ laid-at _ _ parsed i found early (omega arith) (omega arith)
-          ∙ shared-amount _ _ _ _ _ _ _
-          (rw (at-search .loop2 .inv .1) at (search-ended _ _ _ (sym (c .before .before .ends .ensures) ∙ not-false _ (c .before .if1 .left)) early)),
-    )
+amount-known-requires c κs listed =
+    let at-search = c .before .before .before .before in
+    let at-loop = at-search .before .before .before .before .before in
+    let start = at-loop .before .before .before .before .before .before .before .before .before .before .before in
+    let mints = start .args .t10 in
+    let long : length (mints .list) ≡ 16 = simp length-map at (start .good .1 .1 .1 .1 .1 .1 .1 .1 .1 .0 .1 .1 .0 .1 .0 .1) in
+    ap (λ (l : List ℕ). getD l (at-search .loop2 .at) 0) (ap (λ (s : Sums). s .list) (at-loop .before .before .before .mint-decreases .ensures))
+    ∙ found-decrease _ (at-search .loop2 .inv) long (at-loop .before .before .counted .ensures) (sym (c .is-found .ensures) ∙ listed)
+    ∙ ap (decreaseOf _ _ _) (at-search .before .before .key-of .ensures)
 
 mul-list : tie.Need-mul-list Inv-loop2 μ-loop2 Inv-loop μ-loop
 mul-list c = omega arith
@@ -123,25 +128,28 @@ loop-less c = omega arith
 
 loop-again : tie.Need-loop-again Inv-loop2 μ-loop2 Inv-loop μ-loop
 loop-again c =
-    let at-loop = c .before .before .before .before .before .before .before .before in
+    let at-search = c .before .before .before .before .before in
+    let at-loop = at-search .before .before .before .before .before in
+    let start = at-loop .before .before .before .before .before .before .before .before .before .before .before in
+    let region = start .args .region .now in
+    let row = start .args .actions .now in
     let i = at-loop .loop .i in
-    let start = at-loop .before .before .before .before .before .before .before .before in
-    let parsed = start .args .t2 in
-    let long : length (parsed .views) ≡ 16 = simp length-map at (start .good .1 .0 .1 .1 .1 .0 .1 .0 .1) in (
+    let inside : i < length (actionsIn region row) = rw (length-actions region row) (omega arith) in (
       omega arith,
       at-loop .loop .inv .1,
-      rw (add-one i, at-loop .loop .inv .2) (amount-laid _ _ parsed i _ (omega arith) (omega arith) (omega arith) _ (c .amount-known .ensures)),
+      rw (add-one i, at-loop .loop .inv .2)
+          (amount-laid _ (actionsIn region row) i _ inside (omega arith) _
+          (c .amount-known .ensures ∙ ap (amountFrom _ _ _ _ _) (action-at region row i _ (at-search .before .before .before .action-in .ensures)))),
     )
 
 returns : tie.Need-returns Inv-loop2 μ-loop2 Inv-loop μ-loop
 returns c =
     let at-loop = c .before in
-    let start = at-loop .before .before .before .before .before .before .before .before in
+    let start = at-loop .before .before .before .before .before .before .before .before .before .before .before in
     let region = start .args .region .now in
-    let parsed = start .args .t2 in
-    let long : length (parsed .views) ≡ 16 = simp length-map at (start .good .1 .0 .1 .1 .1 .0 .1 .0 .1) in
-    let all : length (actionsAt region parsed) ≡ at-loop .loop .i = rw (length-actions region parsed) (omega arith) in
-    rw (at-loop .loop .inv .2) (all-laid _ region parsed (at-loop .loop .i) all)
+    let row = start .args .actions .now in
+    let all : at-loop .loop .i ≡ min (length (actionsIn region row)) 16 = rw (length-actions region row) (omega arith) in
+    rw (at-loop .loop .inv .2) (all-laid _ (actionsIn region row) (at-loop .loop .i) all)
 
 pub amounts-spec : {M : Type 1} → statement M
 amounts-spec =
@@ -151,19 +159,23 @@ amounts-spec =
     μ-loop2
     Inv-loop
     μ-loop
+    mint-decreases-requires
     counted-requires
+    counted-requires-2
     loop-holds
-    mul-view
-    element-copy-out-view
-    element-copy-out-other
+    action-in-requires
+    key-of-requires
+    element-copy-out-k
     loop2-holds
-    ends-requires
-    add-found
-    mul-other
-    element-copy-out-other-2
+    goes-on-requires
+    add-at
+    mul-k
+    element-copy-out-k-2
     loop2-less
     loop2-again
-    slice-aggregate-amount-known
+    mul-amount-known
+    element-copy-out-amount-known
+    is-found-requires
     amount-known-requires
     mul-list
     array-write-list

@@ -1,7 +1,7 @@
 -- `judge::amounts::token_decrease` meets its contract.
 -- Assumes nothing.
 use mathlib.Core.Path.{_≡_, refl, sym, ap, _∙_}
-use Rattle.judge.proofs.Outflow.{decreased}
+use Rattle.judge.proofs.Outflow.{mint-decreased}
 use borrow.Author.Needs.{needs}
 use Rattle.judge.proofs.amounts.token_decrease.Statement.{statement}
 use Rattle.judge.proofs.amounts.token_decrease.Tie as tie
@@ -16,7 +16,7 @@ floored-difference-requires : tie.Need-floored-difference-requires
 floored-difference-requires c κs = search needs
 
 returns : tie.Need-returns
-returns c = c .floored-difference .ensures ∙ decreased _ _ _ _ (c .before .before .balance .ensures) (c .before .balance2 .ensures)
+returns c = c .floored-difference .ensures ∙ mint-decreased _ _ _ _ _ _ (c .before .before .balance .ensures) (c .before .balance2 .ensures)
 
 pub token-decrease-spec : {M : Type 1} → statement M
 token-decrease-spec =

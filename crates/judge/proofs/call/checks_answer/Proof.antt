@@ -18,10 +18,10 @@ returns : tie.Need-returns
 returns c =
     let programs = c .before .before .evaluate-pre-actions in
     programs .ensures
-    ∙ sym (checks-refused _ _ _ _ _ _ (sym (ap accepts (programs .ensures)) ∙ sym (c .before .accepts .ensures) ∙ not-true _ (c .if1 .taken)))
+    ∙ sym (checks-refused _ _ _ _ _ _ _ (sym (ap accepts (programs .ensures)) ∙ sym (c .before .accepts .ensures) ∙ not-true _ (c .if1 .taken)))
 
-frozen-requires : tie.Need-frozen-requires
-frozen-requires c κs = search needs
+verify-token-authorities-unchanged-requires : tie.Need-verify-token-authorities-unchanged-requires
+verify-token-authorities-unchanged-requires c κs = search needs
 
 of-requires : tie.Need-of-requires
 of-requires c κs = search needs
@@ -32,8 +32,8 @@ returns-2 c =
     let programs = first .before .before .evaluate-pre-actions in
     c .of .ensures
     ∙ sym
-    (checks-thawed _ _ _ _ _ _ (sym (ap accepts (programs .ensures)) ∙ sym (first .before .accepts .ensures) ∙ not-false _ (first .if1 .left))
-    (sym (c .before .before .frozen .ensures) ∙ not-true _ (c .before .if2 .taken)))
+    (checks-thawed _ _ _ _ _ _ _ (sym (ap accepts (programs .ensures)) ∙ sym (first .before .accepts .ensures) ∙ not-false _ (first .if1 .left))
+    (sym (c .before .before .verify-token-authorities-unchanged .ensures) ∙ not-true _ (c .before .if2 .taken)))
 
 of-requires-2 : tie.Need-of-requires-2
 of-requires-2 c κs = search needs
@@ -44,8 +44,8 @@ returns-3 c =
     let programs = first .before .before .evaluate-pre-actions in
     c .of2 .ensures
     ∙ sym
-    (checks-passed _ _ _ _ _ _ (sym (ap accepts (programs .ensures)) ∙ sym (first .before .accepts .ensures) ∙ not-false _ (first .if1 .left))
-    (sym (c .before .before .frozen .ensures) ∙ not-false _ (c .before .if2 .left)))
+    (checks-passed _ _ _ _ _ _ _ (sym (ap accepts (programs .ensures)) ∙ sym (first .before .accepts .ensures) ∙ not-false _ (first .if1 .left))
+    (sym (c .before .before .verify-token-authorities-unchanged .ensures) ∙ not-false _ (c .before .if2 .left)))
 
 pub checks-answer-spec : {M : Type 1} → statement M
 checks-answer-spec =
@@ -54,7 +54,7 @@ checks-answer-spec =
     evaluate-pre-actions-requires
     accepts-requires
     returns
-    frozen-requires
+    verify-token-authorities-unchanged-requires
     of-requires
     returns-2
     of-requires-2

@@ -10,14 +10,11 @@ use borrow.Author.Tests.{not-true, not-false}
 use lib.ListN.{length}
 use Rattle.answer.specs.Numbers.{accepts}
 use Rattle.number.specs.Number.{Bytes}
-use Rattle.action.specs.declared.Parsed.{Parsed}
 use Rattle.action.specs.Creation.{storedActions}
-use Rattle.compact.specs.declared.Parsed.{Parsed as ReadList}
 use Rattle.compact.specs.Compact.{decode}
 use Rattle.account.specs.declared.Places.{Places}
 use Rattle.account.specs.Table.{cutTable}
 use Rattle.judge.specs.Judge.{Call, answerOf, readAnswer}
-use Rattle.judge.specs.Views.{programsIn}
 use Rattle.judge.proofs.Outflow.{decreased}
 use Rattle.judge.proofs.Steps.{records-before, records-after, table-answer, read-answer, region-answer, programs-read, vault-refused, before-refused, after-refused, instructions-refused, region-refused, judged-cut}
 use Rattle.judge.proofs.call.judge.Statement.{statement}
@@ -50,10 +47,10 @@ abbrev two-of : tie.Else3 → tie.Else2
 two-of c = c .before .before .before .before
 
 abbrev three-of : tie.Else4 → tie.Else3
-three-of c = c .before .before .before
+three-of c = c .before .before .before .before
 
 abbrev four-of : tie.Else5 → tie.Else4
-four-of c = c .before .before .before .before
+four-of c = c .before .before .before .before .before .before .before .before .before .before .before
 
 -- ---- what each step that was passed says
 
@@ -72,16 +69,18 @@ after-is c = ap (λ (p : Places). p .answer) (c .cut-places2 .ensures) ∙ table
 after-sound : (c : tie.Else3) → accepts (answerOf (cutTable (call-of (start-1 (one-of (two-of c))) .after))) ≡ true
 after-sound c = sym (ap accepts (after-is (c .before .before .before))) ∙ sym (c .before .accepts2 .ensures) ∙ not-false _ (c .if3 .left)
 
-read-is : (c : tie.After-parse-compact-instructions)
-    → c .parse-compact-instructions .result .answer ≡ readAnswer (decode (call-of (start-1 (one-of (two-of (c .before)))) .instructions))
-read-is c = ap (λ (p : ReadList). p .answer) (c .parse-compact-instructions .ensures) ∙ read-answer _
+read-is : (c : tie.After-parse-programs)
+    → c .parse-programs .result .answer ≡ readAnswer (decode (call-of (start-1 (one-of (two-of (c .before)))) .instructions))
+read-is c = read-answer _ _ (c .parse-programs .ensures)
 
 read-sound : (c : tie.Else4) → accepts (readAnswer (decode (call-of (start-1 (one-of (two-of (three-of c)))) .instructions))) ≡ true
-read-sound c = sym (ap accepts (read-is (c .before .before))) ∙ sym (c .before .accepts3 .ensures) ∙ not-false _ (c .if4 .left)
+read-sound c = sym (ap accepts (read-is (c .before .before .before))) ∙ sym (c .before .accepts3 .ensures) ∙ not-false _ (c .if4 .left)
 
-region-is : (c : tie.After-stored-actions)
-    → c .stored-actions .result .answer ≡ answerOf (storedActions (region-of (start-1 (one-of (two-of (three-of (c .before .before)))))))
-region-is c = ap (λ (p : Parsed). p .answer) (c .stored-actions .ensures) ∙ region-answer _
+region-is : (c : tie.After-stored-answer)
+    → c .stored-answer .result ≡ answerOf (storedActions (region-of (start-1 (one-of (two-of (three-of (c .before .before .before .before .before .before .before .before .before)))))))
+region-is c =
+    let row = c .before .before .before in
+    region-answer _ _ _ _ (row .before .before .before .before .parse-actions .ensures) (row .actions-in .ensures) (c .stored-answer .ensures)
 
 region-sound : (c : tie.Else5) → accepts (answerOf (storedActions (region-of (start-1 (one-of (two-of (three-of (four-of c)))))))) ≡ true
 region-sound c = sym (ap accepts (region-is (c .before .before))) ∙ sym (c .before .accepts4 .ensures) ∙ not-false _ (c .if5 .left)
@@ -128,8 +127,8 @@ returns-3 c =
     let refusal = after-refused (region-of start) (call-of start) (vault-is one) (before-sound two) (sym (ap accepts (after-is cut)) ∙ sym (asked .accepts2 .ensures) ∙ not-true _ (c .before .if3 .taken)) in
     (after-is cut ∙ refusal .0, refusal .1)
 
-parse-compact-instructions-requires : tie.Need-parse-compact-instructions-requires
-parse-compact-instructions-requires c κs = search needs
+parse-programs-requires : tie.Need-parse-programs-requires
+parse-programs-requires c κs = search needs
 
 accepts-requires-3 : tie.Need-accepts-requires-3
 accepts-requires-3 c κs = search needs
@@ -137,7 +136,7 @@ accepts-requires-3 c κs = search needs
 returns-4 : tie.Need-returns-4
 returns-4 c =
     let asked = c .before .before in
-    let read = asked .before in
+    let read = asked .before .before in
     let three = read .before in
     let two = two-of three in
     let one = one-of two in
@@ -145,8 +144,14 @@ returns-4 c =
     let refusal = instructions-refused (region-of start) (call-of start) (vault-is one) (before-sound two) (after-sound three) (sym (ap accepts (read-is read)) ∙ sym (asked .accepts3 .ensures) ∙ not-true _ (c .before .if4 .taken)) in
     (read-is read ∙ refusal .0, refusal .1)
 
-stored-actions-requires : tie.Need-stored-actions-requires
-stored-actions-requires c κs = search needs
+parse-actions-requires : tie.Need-parse-actions-requires
+parse-actions-requires c κs = search needs
+
+actions-in-requires : tie.Need-actions-in-requires
+actions-in-requires c κs = search needs
+
+stored-answer-requires : tie.Need-stored-answer-requires
+stored-answer-requires c κs = search needs
 
 accepts-requires-4 : tie.Need-accepts-requires-4
 accepts-requires-4 c κs = search needs
@@ -156,15 +161,15 @@ same-length c = search needs
 
 returns-5 : tie.Need-returns-5
 returns-5 c =
-    let asked = c .before .before in
-    let cut = asked .before in
-    let four = cut .before .before in
+    let asked = c .before in
+    let stored = asked .before in
+    let four = stored .before .before .before .before .before .before .before .before .before in
     let three = three-of four in
     let two = two-of three in
     let one = one-of two in
     let start = start-1 one in
-    let refusal = region-refused (region-of start) (call-of start) (vault-is one) (before-sound two) (after-sound three) (read-sound four) (sym (ap accepts (region-is cut)) ∙ sym (asked .accepts4 .ensures) ∙ not-true _ (c .before .if5 .taken)) in
-    (region-is cut ∙ refusal .0, refusal .1)
+    let refusal = region-refused (region-of start) (call-of start) (vault-is one) (before-sound two) (after-sound three) (read-sound four) (sym (ap accepts (region-is stored)) ∙ sym (asked .accepts4 .ensures) ∙ not-true _ (c .if5 .taken)) in
+    (region-is stored ∙ refusal .0, refusal .1)
 
 floored-difference-requires : tie.Need-floored-difference-requires
 floored-difference-requires c κs = search needs
@@ -175,6 +180,9 @@ places-in-requires c κs = search needs
 places-in-requires-2 : tie.Need-places-in-requires-2
 places-in-requires-2 c κs = search needs
 
+programs-in-requires : tie.Need-programs-in-requires
+programs-in-requires c κs = search needs
+
 judge-cut-requires : tie.Need-judge-cut-requires
 judge-cut-requires c κs = search needs
 
@@ -184,10 +192,13 @@ same-length-2 c = search needs
 returns-6 : tie.Need-returns-6
 returns-6 c =
     let judged = c .before .before in
-    let row-after = judged .before in
+    let programs = judged .before in
+    let row-after = programs .before .before .before .before in
     let row-before = row-after .before .before .before .before in
     let difference = row-before .before .before .before .before .before in
     let five = difference .before in
+    let stored = five .before .before in
+    let row = stored .before .before .before in
     let four = four-of five in
     let three = three-of four in
     let two = two-of three in
@@ -196,11 +207,11 @@ returns-6 c =
     let call = call-of start in
     let known = one .before .before .before .before .before .slice-known .given in
     let bytes : Bytes (region-of start) = λ k. omega (arith, known k) in
-    let programs = ap (λ (p : ReadList). programsIn (p .entries)) (four .before .before .parse-compact-instructions .ensures) ∙ programs-read _ in
-    judged-cut (region-of start) call (vault-is one) (before-sound two) (after-sound three) (read-sound four) (region-sound five) bytes _ _ _ _ _ _ _
-    (five .before .before .stored-actions .ensures)
+    judged-cut (region-of start) call (vault-is one) (before-sound two) (after-sound three) (read-sound four) (region-sound five) bytes _ _ _ _ _ _ _ _
+    (row .before .before .before .before .parse-actions .ensures) (row .actions-in .ensures)
     (records-before call _ _ (two .before .before .before .cut-places .ensures) (row-before .places-in .ensures))
-    (records-after call _ _ (three .before .before .before .cut-places2 .ensures) (row-after .places-in2 .ensures)) programs
+    (records-after call _ _ (three .before .before .before .cut-places2 .ensures) (row-after .places-in2 .ensures))
+    (programs-read _ _ _ (four .before .before .before .parse-programs .ensures) (programs .programs-in .ensures))
     (difference .floored-difference .ensures ∙ decreased _ _ _ _ refl refl)
     (judged .judge-cut .ensures .0) (judged .judge-cut .ensures .1)
 
@@ -216,16 +227,19 @@ judge-spec =
     cut-places-requires-2
     accepts-requires-2
     returns-3
-    parse-compact-instructions-requires
+    parse-programs-requires
     accepts-requires-3
     returns-4
-    stored-actions-requires
+    parse-actions-requires
+    actions-in-requires
+    stored-answer-requires
     accepts-requires-4
     same-length
     returns-5
     floored-difference-requires
     places-in-requires
     places-in-requires-2
+    programs-in-requires
     judge-cut-requires
     same-length-2
     returns-6)

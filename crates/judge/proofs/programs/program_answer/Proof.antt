@@ -17,7 +17,7 @@ of-requires c κs = search needs
 
 returns : tie.Need-returns
 returns c =
-    let start = c .before .before .before .before .before in
+    let start = c .before .before .before .before .before .before in
     let table = start .args .table .now in
     let row = start .args .places .now in
     let past : length (recordsIn table row) ≤ start .args .program = rw (length-records table row) (omega arith) in
@@ -34,7 +34,7 @@ lists-answer-requires c κs = search needs
 
 returns-2 : tie.Need-returns-2
 returns-2 c =
-    let start = c .before .before .before .before .before .before .before in
+    let start = c .before .before .before .before .before .before .before .before in
     let table = start .args .table .now in
     let row = start .args .places .now in
     let inside : start .args .program < length (recordsIn table row) = rw (length-records table row) (omega arith) in
