@@ -18,9 +18,9 @@ use Rattle.action.specs.declared.Parsed.{Parsed}
 use Rattle.action.specs.Region.{Action, expired}
 use Rattle.action.specs.Fields.{keyOf}
 use Rattle.action.specs.Views.{actionAt, actionsAt, kindsIn}
-use Rattle.action.specs.Creation.{howOften, kindsOf}
+use Rattle.creation.specs.Creation.{howOften, kindsOf}
 use Rattle.action.proofs.Views.{actions-step, length-actions}
-use Rattle.action.proofs.Scanning.{kinds-of-actions}
+use Rattle.creation.proofs.Scanning.{kinds-of-actions}
 use Rattle.account.specs.Table.{Record}
 use Rattle.account.specs.Indexes.{keyAmong}
 use Rattle.compact.specs.declared.Entries.{Entries}

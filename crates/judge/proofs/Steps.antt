@@ -19,11 +19,11 @@ use Rattle.key.specs.Key.{isAmong, keysIn}
 use Rattle.action.specs.declared.Parsed.{Parsed}
 use Rattle.action.specs.Region.{Action, cut, glue, mostActions}
 use Rattle.action.specs.Mints.{isListed, listedMints}
-use Rattle.action.specs.Creation.{inStoredForm, storedActions}
+use Rattle.creation.specs.Creation.{inStoredForm, storedActions}
 use Rattle.action.specs.Views.{actionsAt, viewsIn, parsedOf}
 use Rattle.action.proofs.Cuts.{cut-cuts, cut-at-most, actions-of-parsed}
-use Rattle.action.proofs.Listing.{listed-mints-hold}
-use Rattle.action.proofs.Theorems.{stored-is-formed, stored-is-glued}
+use Rattle.creation.proofs.Listing.{listed-mints-hold}
+use Rattle.creation.proofs.Theorems.{stored-is-formed, stored-is-glued}
 use Rattle.compact.specs.declared.Entry.{Entry}
 use Rattle.compact.specs.declared.Parsed.{Parsed as ReadList}
 use Rattle.compact.specs.Compact.{Instruction, Read, decode, reading, placed, placedOne, refused as noList}

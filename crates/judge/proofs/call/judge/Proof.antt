@@ -11,7 +11,7 @@ use lib.ListN.{length}
 use Rattle.answer.specs.Numbers.{accepts}
 use Rattle.number.specs.Number.{Bytes}
 use Rattle.action.specs.declared.Parsed.{Parsed}
-use Rattle.action.specs.Creation.{storedActions}
+use Rattle.creation.specs.Creation.{storedActions}
 use Rattle.compact.specs.declared.Parsed.{Parsed as ReadList}
 use Rattle.compact.specs.Compact.{decode}
 use Rattle.account.specs.declared.Places.{Places}
