@@ -3,21 +3,18 @@
 use mathlib.Core.Path.{_≡_, refl, sym, ap, subst, _∙_}
 use mathlib.Core.Bool.{Bool, true, false, cond, _&&_, and-eq-true-iff}
 use mathlib.Core.List.{List, [], _∷_, _++_}
-use Prim.Native.Nat.{ℕ, zero, suc, _+_, _-_, _^_, _<_, _≤_}
+use Prim.Native.Nat.{ℕ, zero, suc, _+_, _^_, _<_, _≤_}
 use native.Mathlib.Omega.{arith}
 use borrow.Author.Tests.{eqb-true, leb-true, ltb-true}
 use lib.Dec.{eqb, leb, ltb, lit≤}
 use lib.ListN.{length, take, drop, length-append, length-take, length-drop}
 use lib.Seq.{take-at, drop-at, length-take-le}
-use Rattle.number.specs.Number.{number, bytesOf, withNumberAt, Bytes}
-use Rattle.number.proofs.Laws.{number-below, read-before, read-after, length-with-number, bytes-take, bytes-drop, bytes-append, bytes-with-number, bytesOf-bytes}
+use Rattle.number.specs.Number.{bytesOf, withNumberAt, Bytes}
+use Rattle.number.proofs.Laws.{read-before, read-after, length-with-number, bytes-take, bytes-drop, bytes-append, bytes-with-number, bytesOf-bytes}
 use Rattle.action.specs.declared.Change.{Change}
 use Rattle.action.specs.declared.Change.the-variants.{Nothing, Remaining, Spent}
-use Rattle.action.specs.declared.Rule.the-variants.{Length}
 use Rattle.action.specs.Region.{Action, Typed, types, sizeAmong, dataLength, glueOne, glue}
 use Rattle.action.specs.Fields.{isToken, isRecurring, keyOf, mintLength, amountsOf, withAmounts, window, changedAmounts, changed}
-use Rattle.action.specs.Creation.{keeps, allKeep}
-use Rattle.action.proofs.Cuts.{Cuts, none, more}
 use Rattle.action.proofs.Gluing.{Fits, AllFit, no-more, one-more, data-at-most}
 
 length-changed-amounts : (change : Change) (amounts : List ℕ) → length (changedAmounts change amounts) ≡ length amounts
@@ -172,21 +169,3 @@ bytes-glued (a ∷ l) rs = bytes-append (glueOne a) (glue l) (bytes-glued-one (r
 pub regular-fit : (l : List Action) → AllRegular l → AllFit l
 regular-fit [] rs = no-more
 regular-fit (a ∷ l) rs = one-more (fits (rs .0)) (regular-fit l (rs .1))
-
--- what was cut from bytes, each with its listed length
-pub cut-regular : {n : ℕ} {s : List ℕ} {l : List Action} → Cuts n s l → Bytes s → allKeep Length l ≡ true → AllRegular l
-unfolding allKeep keeps
-cut-regular none bytes e = tt
-cut-regular {s = s} (more {f = f} facts cuts) bytes e =
-    let (here, after) = and-eq-true-iff (keeps Length (f .act)) _ .0 e in
-    let part = take 8 (drop 3 s) in
-    let long : length part ≡ 8 = length-take-le 8 (drop 3 s) (rw (length-drop 3 s) (omega (arith, facts .within))) in
-    let soon : number part < 256 ^ 8 = subst (λ (w : ℕ). number part < 256 ^ w) long (number-below part (bytes-take 8 (drop 3 s) (bytes-drop 3 s bytes))) in (
-      record {
-        known = facts .known;
-        soon = rw (facts .expires-is) soon;
-        sized = eqb-true _ _ here;
-        bytes = subst Bytes (sym (facts .payload-is)) (bytes-take (length (f .act .payload)) (drop 11 s) (bytes-drop 11 s bytes));
-      },
-      cut-regular cuts (subst Bytes (sym (facts .rest-is)) (bytes-drop (11 + length (f .act .payload)) s bytes)) after,
-    )

@@ -1,21 +1,19 @@
--- Cutting and gluing undo each other, and what a region's length can be.
+-- Cutting and gluing undo each other, and how long an action's data can be.
 -- Assumes nothing.
 use mathlib.Core.Path.{_≡_, refl, sym, ap, ap₂, subst, _∙_}
 use mathlib.Core.Bool.{Bool, true, false, cond, _&&_, and-eq-true-iff}
 use mathlib.Core.List.{List, [], _∷_, _++_, append-assoc}
-use Prim.Native.Nat.{ℕ, zero, suc, _+_, _-_, _*_, _^_, _<_, _≤_}
+use Prim.Native.Nat.{ℕ, zero, suc, _+_, _^_, _<_, _≤_}
 use native.Mathlib.Omega.{arith}
-use borrow.Author.Tests.{eqb-true, leb-true, le-leb}
+use borrow.Author.Tests.{leb-true, le-leb}
 use lib.Dec.{eqb, leb}
 use lib.ListN.{length, getD, take, drop, length-append, length-drop, take-append-drop}
 use lib.Seq.{drop-drop, drop-cons, take-at, drop-at, length-take-le}
-use Rattle.answer.specs.Refusable.{Refusable, given, refused, change}
+use Rattle.answer.specs.Refusable.{given}
 use Rattle.number.specs.Number.{number, bytesOf, Bytes}
 use Rattle.number.proofs.Laws.{bytesOf-number, number-bytesOf, length-bytesOf, bytes-take, bytes-drop}
-use Rattle.action.specs.declared.Rule.the-variants.{Length}
 use Rattle.action.specs.Region.{Action, First, Typed, types, first, cut, glueOne, glue, dataLength, sizeAmong, statedLength}
 use Rattle.action.specs.Views.{viewAt, dataAt, actionAt, writtenAt}
-use Rattle.action.specs.Creation.{keeps, allKeep}
 use Rattle.action.proofs.Cutting.{IsFirst, first-given, cut-end, cut-first}
 use Rattle.action.proofs.Cuts.{Cuts, none, more}
 use Rattle.action.proofs.Views.{data-there}
@@ -120,7 +118,7 @@ cut-glue (suc n) (one-more {a = a} {l = l} fits rest) h =
     let some : 0 < length (glueOne a ++ glue l) = rw (length-append (glueOne a) (glue l), length-glueOne a) (omega arith) in
     cut-first n (glueOne a ++ glue l) some (first-glued a (glue l) fits) ∙ rw (cut-glue n rest (omega arith))
 
--- ---- how long a region can be
+-- ---- how long an action's data can be
 
 cond-at-most : (t : Bool) {a b n : ℕ} → a ≤ n → b ≤ n → cond t a b ≤ n
 cond-at-most true p q = p
@@ -141,16 +139,6 @@ size-at-most n code (t ∷ ts) e =
 pub data-at-most : (code : ℕ) → dataLength code ≤ 64
 unfolding dataLength
 data-at-most code = size-at-most 64 code types refl
-
--- at most n actions with the lengths that are listed take at most 75 bytes each: for 16 actions, 1,200
-pub region-at-most : {n : ℕ} {s : List ℕ} {l : List Action} → Cuts n s l → allKeep Length l ≡ true → length s ≤ 75 * n
-unfolding allKeep keeps
-region-at-most none e = omega arith
-region-at-most {s = s} (more {f = f} facts cuts) e =
-    let (here, after) = and-eq-true-iff (keeps Length (f .act)) _ .0 e in
-    let size : length (f .act .payload) ≡ dataLength (f .act .kind) = eqb-true _ _ here in
-    let rest = rw (facts .rest-is, length-drop (11 + length (f .act .payload)) s) at (region-at-most cuts after) in
-    omega (arith, data-at-most (f .act .kind))
 
 -- ---- an action among others
 

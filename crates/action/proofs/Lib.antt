@@ -1,14 +1,9 @@
 pub mod Changing
 pub mod Cuts
 pub mod Cutting
-pub mod Forms
 pub mod Gluing
 pub mod InRow
-pub mod Keeping
 pub mod Listing
-pub mod NamedValues
 pub mod Parsing
-pub mod Scanning
 pub mod Table
-pub mod Theorems
 pub mod Views

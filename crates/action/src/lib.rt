@@ -1,7 +1,6 @@
-// The action region: reading headers, cutting, creation, the stored form, and the fields of an
-// action's data. Any bytes get an answer.
+// The action region: reading headers, cutting, the fields of an action's data, and the listed mints.
+// Any bytes get an answer.
 pub mod fields;
-pub mod form;
 pub mod mints;
 pub mod parse;
 pub mod row;
@@ -56,11 +55,4 @@ pub enum Change {
     Nothing,
     Remaining(u64),
     Spent(u64, u64),
-}
-
-// What each action has to keep by itself.
-pub enum Rule {
-    Length,
-    Fresh,
-    Windowed,
 }

@@ -11,7 +11,7 @@ use Rattle.number.specs.Number.{number, bytesOf, numberAt, cappedSum, flooredDi
 use Rattle.action.specs.Region.{glue, glueOne, cut, first, statedLength, dataLength, sizeAmong, expired}
 use Rattle.action.specs.Fields.{isToken, isRecurring, keyOf, amountsOf, changed, withAmounts}
 use Rattle.action.specs.Mints.{isListed}
-use Rattle.action.specs.Creation.{formOf, allKeep, keeps, bothLists, solRepeats, howOften, mintRepeats, mintAgain, inStoredForm, storedActions, creation}
+use Rattle.creation.specs.Creation.{formOf, allKeep, keeps, bothLists, solRepeats, howOften, mintRepeats, mintAgain, inStoredForm, storedActions, creation}
 use Rattle.compact.specs.Compact.{mostInstructions, byte, front, decodeOne, decodeEach, decode}
 use Rattle.account.specs.Table.{cutTable, cutRecords, firstRecord}
 use Rattle.token.specs.Tokens.{balance}

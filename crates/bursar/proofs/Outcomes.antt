@@ -15,7 +15,7 @@ use Rattle.answer.specs.declared.Answer.{Answer}
 use Rattle.number.specs.Number.{cappedSum, flooredDifference, numberAt, withNumberAt}
 use Rattle.key.specs.Key.{isAmong, keysIn, keysOf, sameBytes, sameKey, withKey}
 use Rattle.key.specs.declared.Keys.{Keys}
-use Rattle.action.specs.Creation.{creation, howOften, storedActions}
+use Rattle.creation.specs.Creation.{creation, howOften, storedActions}
 use Rattle.action.specs.Fields.{amountsOf as action-amountsOf, changed, changedAmounts, isRecurring, isToken, keyOf, lastReset, limit as limitOf, maximum as maximumOf, remaining as remainingOf, spent as spentOf, window as windowOf}
 use Rattle.action.specs.Mints.{listedMints}
 use Rattle.action.specs.Region.{cut, dataLength, expired, mostActions}
@@ -203,15 +203,15 @@ pub action-form-counted : (parsed : action-Parsed)
     → OneOutcome (λ (r : ℕ). r ≡ min (parsed .count) 16)
 action-form-counted _ _ _ p q = one-outcome p q
 
--- action::form::how_often
-pub action-form-how-often : (parsed : action-Parsed) (kind : ℕ)
+-- creation::how_often
+pub creation-how-often : (parsed : action-Parsed) (kind : ℕ)
     → OneOutcome (λ (r : ℕ). r ≡ howOften kind (kindsIn parsed))
-action-form-how-often _ _ _ _ p q = one-outcome p q
+creation-how-often _ _ _ _ p q = one-outcome p q
 
--- action::form::validate_actions_buffer
-pub action-form-validate-actions-buffer : (region : List ℕ)
+-- creation::validate_actions_buffer
+pub creation-validate-actions-buffer : (region : List ℕ)
     → OneOutcome (λ (r : Answer). r ≡ creation region)
-action-form-validate-actions-buffer _ _ _ p q = one-outcome p q
+creation-validate-actions-buffer _ _ _ p q = one-outcome p q
 
 -- action::form::stored_actions
 pub action-form-stored-actions : (region : List ℕ)

@@ -13,12 +13,12 @@ use Rattle.key.specs.Key.{sameKey}
 use Rattle.key.proofs.Laws.{same-key-eq}
 use Rattle.action.specs.declared.Change.{Change}
 use Rattle.action.specs.declared.Change.the-variants.{Nothing}
-use Rattle.action.specs.declared.Rule.the-variants.{Windowed}
+use Rattle.creation.specs.declared.Rule.the-variants.{Windowed}
 use Rattle.action.specs.Region.{Action, expired}
 use Rattle.action.specs.Fields.{isToken, isRecurring, keyOf, mintLength, amountsOf, limit, window, changedAmounts}
-use Rattle.action.specs.Creation.{kindsOf, howOften, mintAgain, mintRepeats}
+use Rattle.creation.specs.Creation.{kindsOf, howOften, mintAgain, mintRepeats}
 use Rattle.action.proofs.Changing.{mint-there, changed-kind, changed-expires, changed-length, changed-mint, changed-amounts, window-kept}
-use Rattle.action.proofs.Theorems.{Formed}
+use Rattle.creation.proofs.Theorems.{Formed}
 use Rattle.limit.specs.Limit.{isLimit, liveChange, changeOf}
 use Rattle.limit.proofs.Rules.{change-none}
 use Rattle.limit.proofs.Taking.{counts, limit-kept}

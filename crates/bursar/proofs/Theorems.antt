@@ -13,9 +13,9 @@ use Rattle.answer.specs.Refusable.{given}
 use Rattle.number.specs.Number.{highest}
 use Rattle.action.specs.Region.{Action, solLimit, tokenLimit, solRecurringLimit, tokenRecurringLimit}
 use Rattle.action.specs.Fields.{isToken, isRecurring, amountsOf, remaining, limit, spent, window, lastReset}
-use Rattle.action.specs.declared.Rule.the-variants.{Fresh}
-use Rattle.action.specs.Creation.{keeps, howOften, solRepeats, storedActions}
-use Rattle.action.proofs.Theorems.{creation-accepted-is-stored, stored-is-formed}
+use Rattle.creation.specs.declared.Rule.the-variants.{Fresh}
+use Rattle.creation.specs.Creation.{keeps, howOften, solRepeats, storedActions}
+use Rattle.creation.proofs.Theorems.{creation-accepted-is-stored, stored-is-formed}
 use Rattle.limit.specs.Limit.{isLimit}
 use Rattle.limit.proofs.Taking.{Goes, on, anew}
 use Rattle.judge.specs.Judge.{Call, actionsOf, judged, regionAfter}

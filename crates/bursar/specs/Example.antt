@@ -7,7 +7,7 @@ use Rattle.answer.specs.NamedValue.{NamedValue}
 use Rattle.answer.specs.Numbers.{accepted, actionSolLimitExceeded, actionSolRecurringLimitExceeded}
 use Rattle.number.specs.Number.{bytesOf}
 use Rattle.action.specs.Region.{glue, solLimit, solRecurringLimit, tokenLimit}
-use Rattle.action.specs.Creation.{creation}
+use Rattle.creation.specs.Creation.{creation}
 use Rattle.judge.specs.Judge.{Call}
 use Rattle.judge.specs.NamedValues.{spending}
 use Rattle.bursar.specs.Run.{sol, afterRun, numbersOf, taken}

@@ -10,7 +10,7 @@ use lib.ListN.{length, take}
 use Rattle.key.specs.Key.{sameKey}
 use Rattle.action.specs.Region.{Action, solLimit, tokenLimit, solRecurringLimit, tokenRecurringLimit}
 use Rattle.action.specs.Fields.{isRecurring, keyOf, mintLength, amountsOf, limit, window, lastReset}
-use Rattle.action.specs.Creation.{storedActions}
+use Rattle.creation.specs.Creation.{storedActions}
 use Rattle.limit.specs.Limit.{isLimit}
 use Rattle.judge.specs.Judge.{Call, actionsOf}
 use Rattle.bursar.specs.Run.{Fund, sol, tokens, takenWhere}

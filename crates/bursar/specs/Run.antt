@@ -6,7 +6,7 @@ use mathlib.Core.Bool.{Bool, true, cond, _&&_}
 use mathlib.Core.List.{List, [], _∷_}
 use Rattle.answer.specs.Numbers.{accepts}
 use Rattle.number.specs.Number.{Bytes, highest}
-use Rattle.action.specs.Creation.{creation}
+use Rattle.creation.specs.Creation.{creation}
 use Rattle.token.specs.Tokens.{balance}
 use Rattle.judge.specs.Judge.{Call, recordsBefore, recordsAfter, decrease, judged, regionAfter}
 

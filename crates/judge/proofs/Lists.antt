@@ -17,9 +17,9 @@ use Rattle.action.specs.declared.ActionView.{ActionView}
 use Rattle.action.specs.Region.{Action, expired}
 use Rattle.action.specs.Fields.{keyOf}
 use Rattle.action.specs.Views.{viewsOf, zeroView, actionAt, actionsIn, kindsIn}
-use Rattle.action.specs.Creation.{howOften, kindsOf}
+use Rattle.creation.specs.Creation.{howOften, kindsOf}
 use Rattle.action.proofs.Views.{actions-step, length-actions}
-use Rattle.action.proofs.Scanning.{kinds-of-actions}
+use Rattle.creation.proofs.Scanning.{kinds-of-actions}
 use Rattle.account.specs.Table.{Record}
 use Rattle.account.specs.Indexes.{keyAmong}
 use Rattle.judge.specs.Programs.{inLiveList, listsAnswer, programAnswer, programsAnswer}

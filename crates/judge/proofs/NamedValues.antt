@@ -9,9 +9,9 @@ use Rattle.number.specs.Number.{number, bytesOf, numberAt, cappedSum, flooredDi
 use Rattle.action.specs.Region.{glue, glueOne, cut, first, statedLength, dataLength, sizeAmong, expired}
 use Rattle.action.specs.Fields.{isToken, isRecurring, keyOf, amountsOf, changed}
 use Rattle.action.specs.Mints.{isListed}
-use Rattle.action.specs.Creation.{formOf, allKeep, keeps, bothLists, solRepeats, howOften, mintRepeats, mintAgain, inStoredForm, storedActions}
-use Rattle.action.specs.NamedValues.{namedValues as creationValues}
-use Rattle.action.proofs.NamedValues.{as-named as creation-as-named}
+use Rattle.creation.specs.Creation.{formOf, allKeep, keeps, bothLists, solRepeats, howOften, mintRepeats, mintAgain, inStoredForm, storedActions}
+use Rattle.creation.specs.NamedValues.{namedValues as creationValues}
+use Rattle.creation.proofs.NamedValues.{as-named as creation-as-named}
 use Rattle.compact.specs.Compact.{mostInstructions, byte, front, decodeOne, decodeEach, decode}
 use Rattle.compact.specs.NamedValues.{namedValues as compactValues}
 use Rattle.compact.proofs.NamedValues.{as-named as compact-as-named}

@@ -18,9 +18,9 @@ use Rattle.action.specs.declared.Change.{Change}
 use Rattle.action.specs.Region.{Action, glue, solLimit, solRecurringLimit, solMaxPerTx, tokenLimit, tokenRecurringLimit, tokenMaxPerTx}
 use Rattle.action.specs.Fields.{changed}
 use Rattle.action.specs.Mints.{isListed}
-use Rattle.action.specs.Creation.{howOften, kindsOf, storedActions}
+use Rattle.creation.specs.Creation.{howOften, kindsOf, storedActions}
 use Rattle.action.proofs.Changing.{bytes-glued}
-use Rattle.action.proofs.Theorems.{stored-is-formed, stored-is-regular, glued-is-stored, formed-changed, regular-changed}
+use Rattle.creation.proofs.Theorems.{stored-is-formed, stored-is-regular, glued-is-stored, formed-changed, regular-changed}
 use Rattle.compact.specs.Compact.{Instruction, Read, decode}
 use Rattle.account.specs.Table.{Record, cutTable}
 use Rattle.account.specs.Indexes.{keyAmong}

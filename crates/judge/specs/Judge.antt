@@ -14,7 +14,7 @@ use Rattle.key.specs.Key.{keyLength}
 use Rattle.action.specs.Region.{Action, glue, solMaxPerTx}
 use Rattle.action.specs.Fields.{isToken, keyOf}
 use Rattle.action.specs.Mints.{isListed}
-use Rattle.action.specs.Creation.{storedActions}
+use Rattle.creation.specs.Creation.{storedActions}
 use Rattle.compact.specs.Compact.{Instruction, Read, decode}
 use Rattle.account.specs.Table.{Record, cutTable, recordsOf}
 use Rattle.token.specs.Tokens.{balance}

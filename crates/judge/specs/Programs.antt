@@ -10,7 +10,7 @@ use Rattle.answer.specs.Numbers.{firstRefusal, refuseIf, invalidInstructionData
 use Rattle.key.specs.Key.{sameKey}
 use Rattle.action.specs.Region.{Action, expired, programWhitelist, programBlacklist}
 use Rattle.action.specs.Fields.{keyOf}
-use Rattle.action.specs.Creation.{howOften, kindsOf}
+use Rattle.creation.specs.Creation.{howOften, kindsOf}
 use Rattle.account.specs.Table.{Record}
 use Rattle.account.specs.Indexes.{keyAmong}
 

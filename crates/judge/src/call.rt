@@ -4,7 +4,7 @@ use crate::freeze::verify_token_authorities_unchanged;
 use crate::programs::evaluate_pre_actions;
 use account::fields::places_in;
 use account::parse::cut_places;
-use action::form::stored_answer;
+use creation::stored_answer;
 use action::mints::listed_mints;
 use action::parse::parse_actions;
 use action::row::actions_in;

@@ -124,7 +124,7 @@ fn replay_calls(region: &mut [u8], buffer: &mut [u8]) -> u64 {
 }
 
 fn replay_region(region: &mut [u8]) {
-    let created = action::form::validate_actions_buffer(region);
+    let created = creation::validate_actions_buffer(region);
     print_line(b"region ", created.number as u64);
     if !created.accepts() {
         print_line(b"end ", 0);

@@ -1,8 +1,8 @@
 // The co-signer's boundary: creation and the judged call as C functions, each answering with a number of the table.
-use action::form::validate_actions_buffer;
+use creation::validate_actions_buffer;
 use judge::call::judge;
 ghost use mathlib.Core.Path.{_≡_};
-ghost use Rattle.action.specs.Creation.{creation};
+ghost use Rattle.creation.specs.Creation.{creation};
 ghost use Rattle.judge.specs.Judge.{judged, regionAfter};
 
 // What creation answers to a region.

@@ -10,7 +10,7 @@ use borrow.Author.Tests.{not-true, not-false}
 use lib.ListN.{length}
 use Rattle.answer.specs.Numbers.{accepts}
 use Rattle.number.specs.Number.{Bytes}
-use Rattle.action.specs.Creation.{storedActions}
+use Rattle.creation.specs.Creation.{storedActions}
 use Rattle.compact.specs.Compact.{decode}
 use Rattle.account.specs.declared.Places.{Places}
 use Rattle.account.specs.Table.{cutTable}

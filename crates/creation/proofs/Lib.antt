@@ -1,0 +1,7 @@
+pub mod Forms
+pub mod Keeping
+pub mod Lengths
+pub mod Listing
+pub mod NamedValues
+pub mod Scanning
+pub mod Theorems

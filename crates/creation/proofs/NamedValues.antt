@@ -1,0 +1,15 @@
+-- The named values of creation hold, by computation.
+-- Assumes nothing.
+use mathlib.Core.Path.{refl}
+use Rattle.answer.specs.NamedValue.{AsNamed}
+use Rattle.answer.specs.Numbers.{firstRefusal}
+use Rattle.key.specs.Key.{sameKey, sameBytes}
+use Rattle.number.specs.Number.{number, bytesOf, numberAt}
+use Rattle.action.specs.Region.{glue, cut, first, statedLength, dataLength, sizeAmong}
+use Rattle.action.specs.Fields.{isToken, isRecurring, keyOf, amountsOf}
+use Rattle.creation.specs.Creation.{creation, formOf, allKeep, keeps, bothLists, solRepeats, howOften, mintRepeats, mintAgain}
+use Rattle.creation.specs.NamedValues.{namedValues}
+
+pub as-named : AsNamed namedValues
+unfolding namedValues creation cut first statedLength dataLength sizeAmong glue number bytesOf numberAt formOf firstRefusal allKeep keeps bothLists solRepeats howOften mintRepeats mintAgain isToken isRecurring keyOf amountsOf sameKey sameBytes
+as-named = (refl, (refl, (refl, (refl, (refl, (refl, tt))))))

@@ -1,0 +1,2 @@
+pub mod Creation
+pub mod NamedValues
