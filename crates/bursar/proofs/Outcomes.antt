@@ -2,47 +2,49 @@
 -- the result, a slice as its bytes, with what each lent slice holds at exit. A parameter that is a slice stands for its bytes at entry.
 -- Written from the contracts in src/ by rust/contracts, which also checks that it is what they say.
 -- Assumes nothing.
-use mathlib.Core.Bool.{Bool}
+use mathlib.Core.Bool.{Bool, _&&_, not}
 use mathlib.Core.List.{List, [], map}
 use mathlib.Core.Path.{_≡_, ap₂}
 use Prim.Native.Nat.{_*_, _+_, min, ℕ}
-use lib.Dec.{leb}
+use lib.Dec.{leb, ltb}
 use lib.ListN.{getD, length, take}
 use Rattle.answer.specs.Numbers.{accepts, answer}
 use Rattle.answer.specs.Outcome.{one-outcome}
 use Rattle.answer.specs.Refusable.{refused}
 use Rattle.answer.specs.declared.Answer.{Answer}
 use Rattle.number.specs.Number.{cappedSum, flooredDifference, numberAt, withNumberAt}
-use Rattle.key.specs.Key.{isAmong, keysIn, keysOf, sameBytes, sameKey, withKey}
+use Rattle.key.specs.Key.{isAmong, keyFrom, keysIn, keysOf, mostKeys, sameBytes, sameKey, withKey}
+use Rattle.key.specs.declared.Key.{Key}
 use Rattle.key.specs.declared.Keys.{Keys}
-use Rattle.creation.specs.Creation.{creation, howOften, storedActions}
 use Rattle.action.specs.Fields.{amountsOf as action-amountsOf, changed, changedAmounts, isRecurring, isToken, keyOf, lastReset, limit as limitOf, maximum as maximumOf, remaining as remainingOf, spent as spentOf, window as windowOf}
 use Rattle.action.specs.Mints.{listedMints}
 use Rattle.action.specs.Region.{cut, dataLength, expired, mostActions}
-use Rattle.action.specs.Views.{actionAt, actionsAt, dataAt, headerAnswer, headerAt, kindsIn, parsedOf, writtenAt}
+use Rattle.action.specs.Views.{actionAt, actionsIn, dataAt, headerAnswer, headerAt, kindsIn, parsedOf, viewsOf as action-viewsOf, writtenAt, zeroView as action-zeroView}
 use Rattle.action.specs.declared.ActionView.{ActionView}
 use Rattle.action.specs.declared.Change.{Change}
 use Rattle.action.specs.declared.HeaderRead.{HeaderRead}
 use Rattle.action.specs.declared.Parsed.{Parsed as action-Parsed}
-use Rattle.compact.specs.Compact.{outputAfter, reading, within, writing}
+use Rattle.creation.specs.Creation.{creation, howOften, storedAnswer}
+use Rattle.compact.specs.Compact.{outputAfter, programsOf, reading, within, writing}
 use Rattle.compact.specs.declared.Entries.{Entries}
 use Rattle.compact.specs.declared.Entry.{Entry}
 use Rattle.compact.specs.declared.Parsed.{Parsed as compact-Parsed}
+use Rattle.compact.specs.declared.Programs.{Programs}
 use Rattle.compact.specs.declared.Range.{Range}
 use Rattle.compact.specs.declared.Written.{Written}
 use Rattle.account.specs.Indexes.{keyAmong, keyAt, resolving}
 use Rattle.account.specs.Table.{cutTable}
-use Rattle.account.specs.Views.{placesOf, recordAt, recordsIn, viewsOf, zeroView}
+use Rattle.account.specs.Views.{placesOf, recordAt, recordsIn, viewsOf as account-viewsOf, zeroView as account-zeroView}
 use Rattle.account.specs.declared.Places.{Places}
 use Rattle.account.specs.declared.RecordView.{RecordView}
 use Rattle.token.specs.Tokens.{balance as balanceOf, isCounted, isTokenAccount, mintOf}
 use Rattle.limit.specs.Limit.{changeOf, classAnswer, ruleAnswer}
 use Rattle.limit.specs.Views.{chargesAt, settledAt}
-use Rattle.limit.specs.declared.Amounts.{Amounts}
 use Rattle.judge.specs.Freeze.{allFrozen}
 use Rattle.judge.specs.Judge.{judged, regionAfter}
 use Rattle.judge.specs.Programs.{programsAnswer}
-use Rattle.judge.specs.Views.{amountFrom, amountsOf as judge-amountsOf, programsIn}
+use Rattle.judge.specs.Views.{amountFrom, amountsOf as judge-amountsOf}
+use Rattle.judge.specs.declared.amounts.Sums.{Sums}
 use Rattle.frame.specs.Frame.{callOf, noTally, openingOf, partIn, partsToRead, tallied}
 use Rattle.frame.specs.declared.Frame.{Frame}
 use Rattle.frame.specs.declared.Opening.{Opening}
@@ -111,6 +113,31 @@ key-same-bytes _ _ _ _ p q = one-outcome p q
 pub key-same-key : (a b : List ℕ)
     → OneOutcome (λ (r : Bool). r ≡ sameKey a b)
 key-same-key _ _ _ _ p q = one-outcome p q
+
+-- key::key_of
+pub key-key-of : (part : List ℕ)
+    → OneOutcome (λ (r : Key). r ≡ keyFrom part)
+key-key-of _ _ _ p q = one-outcome p q
+
+-- key::Key::is
+pub key-Key-is : (self : Key) (key : List ℕ)
+    → OneOutcome (λ (r : Bool). r ≡ sameKey (self .bytes) key)
+key-Key-is _ _ _ _ p q = one-outcome p q
+
+-- key::Key::goes_on
+pub key-Key-goes-on : (self : Key) (key : List ℕ) (at count : ℕ)
+    → OneOutcome (λ (r : Bool). r ≡ (ltb (at + 1) count && not (sameKey (self .bytes) key)))
+key-Key-goes-on _ _ _ _ _ _ p q = one-outcome p q
+
+-- key::Key::is_found
+pub key-Key-is-found : (self : Key) (key : List ℕ) (count : ℕ)
+    → OneOutcome (λ (r : Bool). r ≡ (ltb 0 count && sameKey (self .bytes) key))
+key-Key-is-found _ _ _ _ _ p q = one-outcome p q
+
+-- key::counted
+pub key-counted : (count : ℕ)
+    → OneOutcome (λ (r : ℕ). r ≡ min count mostKeys)
+key-counted _ _ _ p q = one-outcome p q
 
 -- key::Keys::none
 pub key-Keys-none : OneOutcome (λ (r : Keys). r ≡ keysOf [])
@@ -198,29 +225,9 @@ pub action-fields-apply-change : (region : List ℕ) (view : ActionView) (change
     → OneOutcome (λ (o : List ℕ). o ≡ writtenAt region view (changed change (actionAt region view)))
 action-fields-apply-change _ _ _ _ _ p q = one-outcome p q
 
--- action::form::counted
-pub action-form-counted : (parsed : action-Parsed)
-    → OneOutcome (λ (r : ℕ). r ≡ min (parsed .count) 16)
-action-form-counted _ _ _ p q = one-outcome p q
-
--- creation::how_often
-pub creation-how-often : (parsed : action-Parsed) (kind : ℕ)
-    → OneOutcome (λ (r : ℕ). r ≡ howOften kind (kindsIn parsed))
-creation-how-often _ _ _ _ p q = one-outcome p q
-
--- creation::validate_actions_buffer
-pub creation-validate-actions-buffer : (region : List ℕ)
-    → OneOutcome (λ (r : Answer). r ≡ creation region)
-creation-validate-actions-buffer _ _ _ p q = one-outcome p q
-
--- action::form::stored_actions
-pub action-form-stored-actions : (region : List ℕ)
-    → OneOutcome (λ (r : action-Parsed). r ≡ parsedOf (storedActions region))
-action-form-stored-actions _ _ _ p q = one-outcome p q
-
 -- action::mints::listed_mints
-pub action-mints-listed-mints : (region : List ℕ) (parsed : action-Parsed)
-    → OneOutcome (λ (r : Keys). r ≡ listedMints (actionsAt region parsed))
+pub action-mints-listed-mints : (region actions : List ℕ)
+    → OneOutcome (λ (r : Keys). r ≡ listedMints (actionsIn region actions))
 action-mints-listed-mints _ _ _ _ p q = one-outcome p q
 
 -- action::parse::expected_data_size
@@ -248,12 +255,54 @@ pub action-parse-parse-actions : (region : List ℕ)
     → OneOutcome (λ (r : action-Parsed). r ≡ parsedOf (cut mostActions region))
 action-parse-parse-actions _ _ _ p q = one-outcome p q
 
+-- action::row::actions_in
+pub action-row-actions-in : (list : List ℕ) (count : ℕ)
+    → OneOutcome (λ (r : List ℕ). r ≡ take (4 * count) list)
+action-row-actions-in _ _ _ _ p q = one-outcome p q
+
+-- action::row::how_many
+pub action-row-how-many : (actions : List ℕ)
+    → OneOutcome (λ (r : ℕ). r ≡ length (action-viewsOf actions))
+action-row-how-many _ _ _ p q = one-outcome p q
+
+-- action::row::action_in
+pub action-row-action-in : (actions : List ℕ) (i : ℕ)
+    → OneOutcome (λ (r : ActionView). r ≡ getD (action-viewsOf actions) i action-zeroView)
+action-row-action-in _ _ _ _ p q = one-outcome p q
+
+-- ---- creation
+
+-- creation::how_often
+pub creation-how-often : (actions : List ℕ) (kind : ℕ)
+    → OneOutcome (λ (r : ℕ). r ≡ howOften kind (kindsIn actions))
+creation-how-often _ _ _ _ p q = one-outcome p q
+
+-- creation::validate_actions_buffer
+pub creation-validate-actions-buffer : (region : List ℕ)
+    → OneOutcome (λ (r : Answer). r ≡ creation region)
+creation-validate-actions-buffer _ _ _ p q = one-outcome p q
+
+-- creation::stored_answer
+pub creation-stored-answer : (region : List ℕ) (cut : Answer) (actions : List ℕ)
+    → OneOutcome (λ (r : Answer). r ≡ storedAnswer cut (actionsIn region actions))
+creation-stored-answer _ _ _ _ _ p q = one-outcome p q
+
 -- ---- compact
 
 -- compact::parse_compact_instructions
 pub compact-parse-compact-instructions : (bytes : List ℕ)
     → OneOutcome (λ (r : compact-Parsed). r ≡ reading bytes)
 compact-parse-compact-instructions _ _ _ p q = one-outcome p q
+
+-- compact::parse_programs
+pub compact-parse-programs : (bytes : List ℕ)
+    → OneOutcome (λ (r : Programs). r ≡ programsOf (reading bytes))
+compact-parse-programs _ _ _ p q = one-outcome p q
+
+-- compact::programs_in
+pub compact-programs-in : (list : List ℕ) (count : ℕ)
+    → OneOutcome (λ (r : List ℕ). r ≡ take count list)
+compact-programs-in _ _ _ _ p q = one-outcome p q
 
 -- compact::within
 pub compact-within : (source : List ℕ) (range : Range)
@@ -284,7 +333,7 @@ account-fields-record-payload _ _ _ _ p q = one-outcome p q
 
 -- account::fields::view_in
 pub account-fields-view-in : (places : List ℕ) (i : ℕ)
-    → OneOutcome (λ (r : RecordView). r ≡ getD (viewsOf places) i zeroView)
+    → OneOutcome (λ (r : RecordView). r ≡ getD (account-viewsOf places) i account-zeroView)
 account-fields-view-in _ _ _ _ p q = one-outcome p q
 
 -- account::fields::places_in
@@ -342,8 +391,8 @@ pub limit-rule-answer : (region : List ℕ) (view : ActionView) (slot amount : �
 limit-rule-answer _ _ _ _ _ _ p q = one-outcome p q
 
 -- limit::class_answer
-pub limit-class-answer : (region : List ℕ) (parsed : action-Parsed) (amounts : Amounts) (tokens : Bool) (slot : ℕ)
-    → OneOutcome (λ (r : Answer). r ≡ classAnswer tokens slot (chargesAt region parsed amounts))
+pub limit-class-answer : (region actions amounts : List ℕ) (tokens : Bool) (slot : ℕ)
+    → OneOutcome (λ (r : Answer). r ≡ classAnswer tokens slot (chargesAt region actions amounts))
 limit-class-answer _ _ _ _ _ _ _ p q = one-outcome p q
 
 -- limit::change_of
@@ -352,16 +401,16 @@ pub limit-change-of : (region : List ℕ) (view : ActionView) (slot amount : ℕ
 limit-change-of _ _ _ _ _ _ p q = one-outcome p q
 
 -- limit::settle
-pub limit-settle : (region : List ℕ) (parsed : action-Parsed) (amounts : Amounts) (slot : ℕ)
-    → OneOutcome (λ (o : List ℕ). o ≡ settledAt slot parsed amounts region)
+pub limit-settle : (region actions amounts : List ℕ) (slot : ℕ)
+    → OneOutcome (λ (o : List ℕ). o ≡ settledAt slot actions amounts region)
 limit-settle _ _ _ _ _ _ p q = one-outcome p q
 
 -- ---- judge
 
 -- judge::amounts::amounts
-pub judge-amounts-amounts : (region : List ℕ) (parsed : action-Parsed) (before «before_places» after «after_places» vault : List ℕ) (sol gross : ℕ)
-    → OneOutcome (λ (r : Amounts). r ≡ judge-amountsOf (map (amountFrom vault (recordsIn before «before_places») (recordsIn after «after_places») sol gross) (actionsAt region parsed)))
-judge-amounts-amounts _ _ _ _ _ _ _ _ _ _ _ p q = one-outcome p q
+pub judge-amounts-amounts : (region actions before «before_places» after «after_places» vault : List ℕ) (sol gross : ℕ) (mints : Keys)
+    → OneOutcome (λ (r : Sums). r ≡ judge-amountsOf (map (amountFrom vault (recordsIn before «before_places») (recordsIn after «after_places») sol gross) (actionsIn region actions)))
+judge-amounts-amounts _ _ _ _ _ _ _ _ _ _ _ _ p q = one-outcome p q
 
 -- judge::call::judge
 pub judge-call-judge : (region before after instructions vault : List ℕ) (slot «lamports_before» «lamports_after» gross : ℕ)
@@ -374,8 +423,8 @@ pub judge-freeze-verify-token-authorities-unchanged : (before «before_places» 
 judge-freeze-verify-token-authorities-unchanged _ _ _ _ _ _ _ _ p q = one-outcome p q
 
 -- judge::programs::evaluate_pre_actions
-pub judge-programs-evaluate-pre-actions : (region : List ℕ) (parsed : action-Parsed) (table places : List ℕ) (entries : Entries) (slot : ℕ)
-    → OneOutcome (λ (r : Answer). r ≡ programsAnswer slot (actionsAt region parsed) (recordsIn table places) (programsIn entries))
+pub judge-programs-evaluate-pre-actions : (region actions table places programs : List ℕ) (slot : ℕ)
+    → OneOutcome (λ (r : Answer). r ≡ programsAnswer slot (actionsIn region actions) (recordsIn table places) programs)
 judge-programs-evaluate-pre-actions _ _ _ _ _ _ _ _ p q = one-outcome p q
 
 -- ---- thimbleford
