@@ -35,7 +35,7 @@ use Rattle.compact.proofs.Indexes.{programs-counted, programs-answer}
 use Rattle.compact.proofs.Places.{entries-held}
 use Rattle.compact.proofs.Reading.{reading-of, outcome}
 use Rattle.account.specs.declared.Places.{Places}
-use Rattle.account.specs.Table.{Record, cutTable}
+use Rattle.account.specs.Table.{Record, cutTable, recordsOf}
 use Rattle.account.specs.Views.{recordsIn, placesOf}
 use Rattle.account.proofs.Views.{records-of-places}
 use Rattle.limit.specs.Limit.{Charge, classAnswer, settled}
@@ -152,15 +152,18 @@ read-answer s p e = ap (λ (x : Programs). x .answer) e ∙ programs-answer (rea
     go none q = ap (λ (r : ReadList). r .answer) (reading-of s none q)
     go (some d) q = ap (λ (r : ReadList). r .answer) (reading-of s (some d) q)
 
-pub records-before : (call : Call) (p : Places) (row : List ℕ) → p ≡ placesOf (cutTable (call .before)) → row ≡ take (2 * p .count) (p .list)
-    → recordsIn (call .before) row ≡ recordsBefore call
+-- the records of a row are those of the table that was cut into it
+pub records-of-row : (s : List ℕ) (p : Places) (row : List ℕ) → p ≡ placesOf (cutTable s) → row ≡ take (2 * p .count) (p .list) → recordsIn s row ≡ recordsOf (cutTable s)
+records-of-row s p row e r = ap (recordsIn s) r ∙ records-of-places s p e
+
+pub records-named : (call : Call) (records : List Record) → records ≡ recordsOf (cutTable (call .before)) → records ≡ recordsBefore call
 unfolding recordsBefore
-records-before call p row e r = ap (recordsIn (call .before)) r ∙ records-of-places (call .before) p e
+records-named call records e = e
 
 pub records-after : (call : Call) (p : Places) (row : List ℕ) → p ≡ placesOf (cutTable (call .after)) → row ≡ take (2 * p .count) (p .list)
     → recordsIn (call .after) row ≡ recordsAfter call
 unfolding recordsAfter
-records-after call p row e r = ap (recordsIn (call .after)) r ∙ records-of-places (call .after) p e
+records-after call p row e r = records-of-row (call .after) p row e r
 
 pub table-answer : (x : Refusable (List Record)) → placesOf x .answer ≡ answerOf x
 unfolding placesOf

@@ -33,6 +33,19 @@ pub record Call : Type 0 where
   pub lamportsAfter : ℕ
   pub gross : ℕ
 
+-- the call of what a judged call is handed, in that order
+abbrev pub callOf : List ℕ → List ℕ → List ℕ → List ℕ → ℕ → ℕ → ℕ → ℕ → Call
+callOf before after instructions vault slot lamportsBefore lamportsAfter gross = record {
+  before = before;
+  after = after;
+  instructions = instructions;
+  vault = vault;
+  slot = slot;
+  lamportsBefore = lamportsBefore;
+  lamportsAfter = lamportsAfter;
+  gross = gross;
+}
+
 -- the answer of what gives a value or refuses
 abbrev pub answerOf : {A : Type 0} → Refusable A → Answer
 answerOf (given a) = answer accepted

@@ -21,13 +21,15 @@ use limit::class_answer;
 use limit::settle;
 use number::floored_difference;
 ghost use mathlib.Core.Path.{_≡_};
-ghost use mathlib.Core.Bool.{cond};
+ghost use mathlib.Core.Bool.{true, cond};
 ghost use mathlib.Core.List.{map};
+ghost use lib.ListN.{length};
 ghost use Rattle.answer.specs.Numbers.{accepts};
+ghost use Rattle.account.specs.Table.{cutTable, recordsOf};
 ghost use Rattle.account.specs.Views.{recordsIn};
 ghost use Rattle.action.specs.Views.{actionsIn};
 ghost use Rattle.limit.specs.Views.{chargesAt, settledAt};
-ghost use Rattle.judge.specs.Judge.{judged, regionAfter};
+ghost use Rattle.judge.specs.Judge.{callOf, answerOf, judged, regionAfter};
 ghost use Rattle.judge.specs.Views.{amountFrom, amountsOf, checksFrom, limitsFrom, rulesFrom};
 
 // Steps 5 and 6: the programs and the freeze.
@@ -128,10 +130,12 @@ fn judge_cut(
     Answer::of(ACCEPTED)
 }
 
-// Judges a call: the first failure decides, and only an accepted call writes the region.
-pub fn judge(
+// The steps after the vault key and the table before. Each table is cut in a function of its own: two
+// calls of one function would share a place for what it answers, and each answer be copied once more.
+fn judge_after(
     region: &mut [u8],
     before: &[u8],
+    before_places: &[usize],
     after: &[u8],
     instructions: &[u8],
     vault: &[u8],
@@ -140,15 +144,9 @@ pub fn judge(
     lamports_after: u64,
     gross: u64,
 ) -> Answer
-    ensures { λ r. ⌜ (r ≡ judged (now (region .entry)) (record { before = now (before .entry); after = now (after .entry); instructions = now (instructions .entry); vault = now (vault .entry); slot = slot; lamportsBefore = «lamports_before»; lamportsAfter = «lamports_after»; gross = gross })) × (now (region .exit) ≡ regionAfter (now (region .entry)) (record { before = now (before .entry); after = now (after .entry); instructions = now (instructions .entry); vault = now (vault .entry); slot = slot; lamportsBefore = «lamports_before»; lamportsAfter = «lamports_after»; gross = gross })) ⌝ }
+    requires { ⌜ (length (now vault) ≡ 32) × (accepts (answerOf (cutTable (now before))) ≡ true) × (recordsIn (now before) (now «before_places») ≡ recordsOf (cutTable (now before))) ⌝ }
+    ensures { λ r. ⌜ (r ≡ judged (now (region .entry)) (callOf (now (before .entry)) (now (after .entry)) (now (instructions .entry)) (now (vault .entry)) slot «lamports_before» «lamports_after» gross)) × (now (region .exit) ≡ regionAfter (now (region .entry)) (callOf (now (before .entry)) (now (after .entry)) (now (instructions .entry)) (now (vault .entry)) slot «lamports_before» «lamports_after» gross)) ⌝ }
 {
-    if vault.len() != KEY_LENGTH {
-        return Answer::of(BAD_TABLE);
-    }
-    let before_cut = cut_places(before);
-    if !before_cut.answer.accepts() {
-        return before_cut.answer;
-    }
     let after_cut = cut_places(after);
     if !after_cut.answer.accepts() {
         return after_cut.answer;
@@ -168,13 +166,48 @@ pub fn judge(
         region,
         actions,
         before,
-        places_in(&before_cut.list, before_cut.count),
+        before_places,
         after,
         places_in(&after_cut.list, after_cut.count),
         programs_in(&read.list, read.count),
         vault,
         slot,
         sol,
+        gross,
+    )
+}
+
+// Judges a call: the first failure decides, and only an accepted call writes the region.
+pub fn judge(
+    region: &mut [u8],
+    before: &[u8],
+    after: &[u8],
+    instructions: &[u8],
+    vault: &[u8],
+    slot: u64,
+    lamports_before: u64,
+    lamports_after: u64,
+    gross: u64,
+) -> Answer
+    ensures { λ r. ⌜ (r ≡ judged (now (region .entry)) (callOf (now (before .entry)) (now (after .entry)) (now (instructions .entry)) (now (vault .entry)) slot «lamports_before» «lamports_after» gross)) × (now (region .exit) ≡ regionAfter (now (region .entry)) (callOf (now (before .entry)) (now (after .entry)) (now (instructions .entry)) (now (vault .entry)) slot «lamports_before» «lamports_after» gross)) ⌝ }
+{
+    if vault.len() != KEY_LENGTH {
+        return Answer::of(BAD_TABLE);
+    }
+    let before_cut = cut_places(before);
+    if !before_cut.answer.accepts() {
+        return before_cut.answer;
+    }
+    judge_after(
+        region,
+        before,
+        places_in(&before_cut.list, before_cut.count),
+        after,
+        instructions,
+        vault,
+        slot,
+        lamports_before,
+        lamports_after,
         gross,
     )
 }

@@ -3,7 +3,7 @@ use creation::validate_actions_buffer;
 use judge::call::judge;
 ghost use mathlib.Core.Path.{_≡_};
 ghost use Rattle.creation.specs.Creation.{creation};
-ghost use Rattle.judge.specs.Judge.{judged, regionAfter};
+ghost use Rattle.judge.specs.Judge.{callOf, judged, regionAfter};
 
 // What creation answers to a region.
 #[no_mangle]
@@ -26,7 +26,7 @@ pub extern "C" fn thimbleford_judge(
     lamports_after: u64,
     gross: u64,
 ) -> u32
-    ensures { λ r. ⌜ (r ≡ judged (now (region .entry)) (record { before = now (before .entry); after = now (after .entry); instructions = now (instructions .entry); vault = now (vault .entry); slot = slot; lamportsBefore = «lamports_before»; lamportsAfter = «lamports_after»; gross = gross }) .number) × (now (region .exit) ≡ regionAfter (now (region .entry)) (record { before = now (before .entry); after = now (after .entry); instructions = now (instructions .entry); vault = now (vault .entry); slot = slot; lamportsBefore = «lamports_before»; lamportsAfter = «lamports_after»; gross = gross })) ⌝ }
+    ensures { λ r. ⌜ (r ≡ judged (now (region .entry)) (callOf (now (before .entry)) (now (after .entry)) (now (instructions .entry)) (now (vault .entry)) slot «lamports_before» «lamports_after» gross) .number) × (now (region .exit) ≡ regionAfter (now (region .entry)) (callOf (now (before .entry)) (now (after .entry)) (now (instructions .entry)) (now (vault .entry)) slot «lamports_before» «lamports_after» gross)) ⌝ }
 {
     judge(
         region,
