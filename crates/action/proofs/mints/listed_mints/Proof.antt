@@ -3,7 +3,7 @@
 -- Assumes nothing.
 use Prim.Native.Nat.{_+_, _-_, _<_, _≤_}
 use mathlib.Core.Path.{_≡_, refl, sym, ap, _∙_}
-use mathlib.Core.Bool.{true, not, _&&_}
+use mathlib.Core.Bool.{_&&_}
 use mathlib.Core.Logic.{⊎-elim}
 use native.Mathlib.Numerals.{add-one}
 use native.Mathlib.Omega.{arith}
@@ -12,7 +12,7 @@ use lib.Dec.{ltb}
 use lib.ListN.{length, drop, set}
 use Rattle.key.specs.declared.Key.{Key}
 use Rattle.key.specs.declared.Keys.{Keys}
-use Rattle.key.specs.Key.{sameKey}
+use Rattle.key.specs.Key.{sameKey, isAmong, keysIn}
 use Rattle.key.proofs.Searching.{Searched, search-starts, search-room, search-next, search-ended}
 use Rattle.action.specs.Mints.{withMint, withMints, listedMints}
 use Rattle.action.specs.Views.{viewsOf, actionAt, actionsIn}
@@ -33,15 +33,22 @@ Inv-loop region actions n mints₀ i₀ mints i =
 abbrev μ-loop : tie.MeasureT-loop
 μ-loop region actions n mints₀ i₀ mints i = n - i
 
--- the search goes on, so there is a next key
-on : (c : tie.At-loop2 Inv-loop2 μ-loop2 Inv-loop μ-loop)
-    → (ltb (c .loop2 .at + 1) (c .before .before .before .before .before .loop .mints .count)
-    && not (sameKey (c .loop2 .k .bytes) (c .before .before .key-of .result .now)))
-    ≡ true
-    → c .loop2 .at + 1 < 16
-on c goes =
-    let filled = c .before .before .before .before .before .loop .inv .2 in
-    search-room (c .loop2 .inv) (filled .places) (omega arith) goes
+-- where the search goes on there is a next key
+on : (c : tie.Then1 Inv-loop2 μ-loop2 Inv-loop μ-loop) → c .before .before .loop2 .at + 1 < 16
+on c =
+    let at-search = c .before .before in
+    let filled = at-search .before .before .before .before .before .loop .inv .2 in
+    search-room (at-search .loop2 .inv) (filled .places) (omega arith) (sym (c .before .goes-on .ensures) ∙ c .if1 .taken)
+
+-- where it ended it tells whether the mint is listed
+looked : (c : tie.Else1 Inv-loop2 μ-loop2 Inv-loop μ-loop)
+    → isAmong (c .before .before .before .before .key-of .result .now) (keysIn (c .before .before .before .before .before .before .before .loop .mints))
+    ≡ (ltb 0 (c .before .before .before .before .before .before .before .loop .mints .count)
+    && sameKey (c .before .before .loop2 .k .bytes) (c .before .before .before .before .key-of .result .now))
+looked c =
+    let at-search = c .before .before in
+    let filled = at-search .before .before .before .before .before .loop .inv .2 in
+    search-ended (at-search .loop2 .inv) (filled .places) (omega arith) (sym (c .before .goes-on .ensures) ∙ c .if1 .left)
 
 how-many-requires : tie.Need-how-many-requires Inv-loop2 μ-loop2 Inv-loop μ-loop
 how-many-requires c κs = tt
@@ -68,16 +75,16 @@ goes-on-requires : tie.Need-goes-on-requires Inv-loop2 μ-loop2 Inv-loop μ-loop
 goes-on-requires c κs = tt
 
 add-at : tie.Need-add-at Inv-loop2 μ-loop2 Inv-loop μ-loop
-add-at c = omega (arith, on (c .before .before) (sym (c .before .goes-on .ensures) ∙ c .if1 .taken))
+add-at c = omega (arith, on c)
 
 mul-k : tie.Need-mul-k Inv-loop2 μ-loop2 Inv-loop μ-loop
-mul-k c = omega (arith, on (c .before .before) (sym (c .before .goes-on .ensures) ∙ c .if1 .taken))
+mul-k c = omega (arith, on c)
 
 element-copy-out-k-2 : tie.Need-element-copy-out-k-2 Inv-loop2 μ-loop2 Inv-loop μ-loop
-element-copy-out-k-2 c = omega (arith, on (c .before .before) (sym (c .before .goes-on .ensures) ∙ c .if1 .taken))
+element-copy-out-k-2 c = omega (arith, on c)
 
 loop2-less : tie.Need-loop2-less Inv-loop2 μ-loop2 Inv-loop μ-loop
-loop2-less c = omega (arith, on (c .before .before .before) (sym (c .before .before .goes-on .ensures) ∙ c .before .if1 .taken))
+loop2-less c = omega (arith, on (c .before))
 
 loop2-again : tie.Need-loop2-again Inv-loop2 μ-loop2 Inv-loop μ-loop
 loop2-again c =
@@ -103,9 +110,7 @@ element-set-from-key c =
     let at-search = done .before .before in
     let at-loop = at-search .before .before .before .before .before in
     let start = at-loop .before .before .before .before .before in
-    let filled = at-loop .loop .inv .2 in
-    let looked = search-ended (at-search .loop2 .inv) (filled .places) (omega arith) (sym (done .before .goes-on .ensures) ∙ done .if1 .left) in
-    mint-room (at-loop .loop .mints) (actionAt (start .args .region .now) (at-search .before .before .before .action-in .result)) _ (at-search .before .before .key-of .ensures) _ looked
+    mint-room (at-loop .loop .mints) (actionAt (start .args .region .now) (at-search .before .before .before .action-in .result)) _ (at-search .before .before .key-of .ensures) _ (looked done)
     (sym (asked .is-new .ensures) ∙ c .before .if2 .taken)
 
 add-mints : tie.Need-add-mints Inv-loop2 μ-loop2 Inv-loop μ-loop
@@ -130,11 +135,10 @@ loop-again c =
     let filled = at-loop .loop .inv .2 in
     let its = at-search .before .before .key-of .ensures in
     let act = actionAt (start .args .region .now) (at-search .before .before .before .action-in .result) in
-    let looked = search-ended (at-search .loop2 .inv) (filled .places) (omega arith) (sym (done .before .goes-on .ensures) ∙ done .if1 .left) in
     let put : c .if2 .mints ≡ withMint mints act =
     ⊎-elim
-    (λ w. w .2 ∙ ap (λ (k : Key). record { list = set (mints .list) (mints .count) k; count = mints .count + 1 }) (w .1 .ensures) ∙ sym (mint-new mints act _ its _ looked (sym (c .before .is-new .ensures) ∙ w .0 .taken)))
-    (λ w. w .1 ∙ sym (mint-same mints act _ its _ looked (sym (c .before .is-new .ensures) ∙ w .0 .left)))
+    (λ w. w .2 ∙ ap (λ (k : Key). record { list = set (mints .list) (mints .count) k; count = mints .count + 1 }) (w .1 .ensures) ∙ sym (mint-new mints act _ its _ (looked done) (sym (c .before .is-new .ensures) ∙ w .0 .taken)))
+    (λ w. w .1 ∙ sym (mint-same mints act _ its _ (looked done) (sym (c .before .is-new .ensures) ∙ w .0 .left)))
     (c .if2 .came) in (
       omega arith,
       at-loop .loop .inv .1,

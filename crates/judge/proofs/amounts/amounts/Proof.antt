@@ -3,13 +3,10 @@
 -- Assumes nothing.
 use Prim.Native.Nat.{ℕ, _+_, _-_, _<_, _≤_, min}
 use mathlib.Core.Path.{_≡_, refl, sym, ap, _∙_}
-use mathlib.Core.Bool.{true, not, _&&_}
 use mathlib.Core.List.{List}
 use native.Mathlib.Numerals.{add-one}
 use native.Mathlib.Omega.{arith}
-use lib.Dec.{ltb}
 use lib.ListN.{length, getD, length-map}
-use Rattle.key.specs.Key.{sameKey}
 use Rattle.key.proofs.Searching.{Searched, search-starts, search-room, search-next}
 use Rattle.account.specs.Views.{recordsIn}
 use Rattle.action.specs.Views.{viewsOf, actionAt, actionsIn}
@@ -35,17 +32,19 @@ Inv-loop region actions before before-places after after-places vault sol gross 
 abbrev μ-loop : tie.MeasureT-loop
 μ-loop region actions before before-places after after-places vault sol gross mints decreases count n list₀ i₀ list i = n - i
 
--- the search goes on, so there is a next mint
-on : (c : tie.At-loop2 Inv-loop2 μ-loop2 Inv-loop μ-loop)
-    → (ltb (c .loop2 .at + 1) (c .before .before .before .before .before .before .before .counted .result)
-    && not (sameKey (c .loop2 .k .bytes) (c .before .before .key-of .result .now)))
-    ≡ true
-    → c .loop2 .at + 1 < 16
-on c goes =
-    let at-loop = c .before .before .before .before .before in
-    let start = at-loop .before .before .before .before .before .before .before .before .before .before .before in
-    let long : length (start .args .t10 .list) ≡ 16 = simp length-map at (start .good .1 .1 .1 .1 .1 .1 .1 .1 .1 .0 .1 .1 .0 .1 .0 .1) in
-    search-room (c .loop2 .inv) long (at-loop .before .before .counted .ensures) goes
+-- the listed mints that were handed in have sixteen places
+places : (c : tie.At-loop2 Inv-loop2 μ-loop2 Inv-loop μ-loop)
+    → length (c .before .before .before .before .before .before .before .before .before .before .before .before .before .before .before .before .args .t10 .list) ≡ 16
+places c =
+    let start = c .before .before .before .before .before .before .before .before .before .before .before .before .before .before .before .before in
+    simp length-map at (start .good .1 .1 .1 .1 .1 .1 .1 .1 .1 .0 .1 .1 .0 .1 .0 .1)
+
+-- where the search goes on there is a next one
+on : (c : tie.Then1 Inv-loop2 μ-loop2 Inv-loop μ-loop) → c .before .before .loop2 .at + 1 < 16
+on c =
+    let at-search = c .before .before in
+    search-room (at-search .loop2 .inv) (places at-search) (at-search .before .before .before .before .before .before .before .counted .ensures)
+    (sym (c .before .goes-on .ensures) ∙ c .if1 .taken)
 
 mint-decreases-requires : tie.Need-mint-decreases-requires Inv-loop2 μ-loop2 Inv-loop μ-loop
 mint-decreases-requires c κs = tt
@@ -75,24 +74,22 @@ goes-on-requires : tie.Need-goes-on-requires Inv-loop2 μ-loop2 Inv-loop μ-loop
 goes-on-requires c κs = tt
 
 add-at : tie.Need-add-at Inv-loop2 μ-loop2 Inv-loop μ-loop
-add-at c = omega (arith, on (c .before .before) (sym (c .before .goes-on .ensures) ∙ c .if1 .taken))
+add-at c = omega (arith, on c)
 
 mul-k : tie.Need-mul-k Inv-loop2 μ-loop2 Inv-loop μ-loop
-mul-k c = omega (arith, on (c .before .before) (sym (c .before .goes-on .ensures) ∙ c .if1 .taken))
+mul-k c = omega (arith, on c)
 
 element-copy-out-k-2 : tie.Need-element-copy-out-k-2 Inv-loop2 μ-loop2 Inv-loop μ-loop
-element-copy-out-k-2 c = omega (arith, on (c .before .before) (sym (c .before .goes-on .ensures) ∙ c .if1 .taken))
+element-copy-out-k-2 c = omega (arith, on c)
 
 loop2-less : tie.Need-loop2-less Inv-loop2 μ-loop2 Inv-loop μ-loop
-loop2-less c = omega (arith, on (c .before .before .before) (sym (c .before .before .goes-on .ensures) ∙ c .before .if1 .taken))
+loop2-less c = omega (arith, on (c .before))
 
 loop2-again : tie.Need-loop2-again Inv-loop2 μ-loop2 Inv-loop μ-loop
 loop2-again c =
     let at-search = c .before .before .before in
     let at-loop = at-search .before .before .before .before .before in
-    let start = at-loop .before .before .before .before .before .before .before .before .before .before .before in
-    let long : length (start .args .t10 .list) ≡ 16 = simp length-map at (start .good .1 .1 .1 .1 .1 .1 .1 .1 .1 .0 .1 .1 .0 .1 .0 .1) in
-    search-next (at-search .loop2 .inv) long (at-loop .before .before .counted .ensures) (sym (c .before .before .goes-on .ensures) ∙ c .before .if1 .taken) _
+    search-next (at-search .loop2 .inv) (places at-search) (at-loop .before .before .counted .ensures) (sym (c .before .before .goes-on .ensures) ∙ c .before .if1 .taken) _
 
 mul-amount-known : tie.Need-mul-amount-known Inv-loop2 μ-loop2 Inv-loop μ-loop
 mul-amount-known c = omega arith
@@ -107,11 +104,8 @@ amount-known-requires : tie.Need-amount-known-requires Inv-loop2 μ-loop2 Inv-lo
 amount-known-requires c κs listed =
     let at-search = c .before .before .before .before in
     let at-loop = at-search .before .before .before .before .before in
-    let start = at-loop .before .before .before .before .before .before .before .before .before .before .before in
-    let mints = start .args .t10 in
-    let long : length (mints .list) ≡ 16 = simp length-map at (start .good .1 .1 .1 .1 .1 .1 .1 .1 .1 .0 .1 .1 .0 .1 .0 .1) in
     ap (λ (l : List ℕ). getD l (at-search .loop2 .at) 0) (ap (λ (s : Sums). s .list) (at-loop .before .before .before .mint-decreases .ensures))
-    ∙ found-decrease _ (at-search .loop2 .inv) long (at-loop .before .before .counted .ensures) (sym (c .is-found .ensures) ∙ listed)
+    ∙ found-decrease _ (at-search .loop2 .inv) (places at-search) (at-loop .before .before .counted .ensures) (sym (c .is-found .ensures) ∙ listed)
     ∙ ap (decreaseOf _ _ _) (at-search .before .before .key-of .ensures)
 
 mul-list : tie.Need-mul-list Inv-loop2 μ-loop2 Inv-loop μ-loop
