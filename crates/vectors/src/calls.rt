@@ -57,11 +57,13 @@ fn judge_after(rest: &[u8], len: usize, room: &mut [u8]) -> bool {
     judge_frame(&mut room[0..len], &rest[len..])
 }
 
-// A replay's input of one call: the number and the region afterwards. Says whether it is one.
-pub(crate) fn judge(payload: &[u8], room: &mut [u8]) -> bool {
+// A replay's input of one call: the number and the region afterwards. Says whether it is one. The
+// room holds the longest region that two bytes can announce.
+pub(crate) fn judge(payload: &[u8]) -> bool {
     if payload.len() < frame::REGION_LENGTH_SIZE {
         return false;
     }
     let len = frame::region_length(payload);
-    judge_after(&payload[frame::REGION_LENGTH_SIZE..], len, room)
+    let mut room = [0u8; 65535];
+    judge_after(&payload[frame::REGION_LENGTH_SIZE..], len, &mut room)
 }

@@ -141,11 +141,13 @@ fn write_after(rest: &[u8], count: u8, room: &mut [u8]) -> bool {
     true
 }
 
-// A count (1), as many entries, the output's length (4) and the source. Says whether they are there.
-pub(crate) fn write(payload: &[u8], room: &mut [u8]) -> bool {
+// A count (1), as many entries, the output's length (4) and the source. Says whether they are there,
+// and the output no longer than the room.
+pub(crate) fn write(payload: &[u8]) -> bool {
     if payload.len() < 1 {
         return false;
     }
     let count = payload[0];
-    write_after(&payload[1..], count, room)
+    let mut room = [0u8; 200000];
+    write_after(&payload[1..], count, &mut room)
 }

@@ -19,7 +19,7 @@ struct Head {
     len: usize,
 }
 
-// Whether there is a case more.
+// What stands where a case may begin: its head, or the input's end.
 enum Next {
     Case(Head),
     End,
@@ -42,28 +42,28 @@ fn print_read(kind: u8, payload: &[u8]) -> bool {
             instructions::read(payload);
             true
         }
+        21 => instructions::write(payload),
         30 => accounts::resolve(payload),
         31 => accounts::lookup(payload),
+        40 => calls::judge(payload),
         _ => numbers::print(kind, payload),
     }
 }
 
-// Every kind. One writes to its payload, and `room` is there for the others' output.
-fn print_case(kind: u8, payload: &mut [u8], room: &mut [u8]) -> bool {
+// Every kind: as above, and the one that writes to its payload.
+fn print_case(kind: u8, payload: &mut [u8]) -> bool {
     match kind {
         2 => numbers::write(payload),
-        21 => instructions::write(payload, room),
-        40 => calls::judge(payload, room),
         _ => print_read(kind, payload),
     }
 }
 
 // Reads a payload and writes its line; says whether to go on.
-fn answer_payload(kind: u8, payload: &mut [u8], room: &mut [u8]) -> bool {
+fn answer_payload(kind: u8, payload: &mut [u8]) -> bool {
     if io::read_full(STDIN_FILENO, payload) < payload.len() {
         return false;
     }
-    if !print_case(kind, payload, room) {
+    if !print_case(kind, payload) {
         text::print_byte(b'?');
     }
     text::print_byte(b'\n')
@@ -80,7 +80,7 @@ fn read_head() -> Next {
 }
 
 // Reads a case and writes its line; says whether to go on.
-fn answer_one(payload: &mut [u8], room: &mut [u8]) -> bool {
+fn answer_one(payload: &mut [u8]) -> bool {
     let Next::Case(head) = read_head() else {
         return false;
     };
@@ -88,14 +88,14 @@ fn answer_one(payload: &mut [u8], room: &mut [u8]) -> bool {
     if payload.len() < len {
         return false;
     }
-    answer_payload(head.kind, &mut payload[0..len], room)
+    answer_payload(head.kind, &mut payload[0..len])
 }
 
 // A proved loop has to end, so it counts its turns down, from a number that no run uses up.
-fn answer_all(payload: &mut [u8], room: &mut [u8]) {
+fn answer_all(payload: &mut [u8]) {
     let mut turns = u64::MAX;
     while turns > 0 {
-        if !answer_one(payload, room) {
+        if !answer_one(payload) {
             return;
         }
         turns -= 1;
@@ -104,6 +104,5 @@ fn answer_all(payload: &mut [u8], room: &mut [u8]) {
 
 fn main() {
     let mut payload = [0u8; 200000];
-    let mut room = [0u8; 200000];
-    answer_all(&mut payload, &mut room);
+    answer_all(&mut payload);
 }
