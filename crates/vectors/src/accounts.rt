@@ -1,4 +1,5 @@
-// The account table: resolving an entry, and looking a key up.
+// The account table: resolving an entry, and looking a key up. Each kind says whether its payload is
+// long enough, and prints nothing where it is not.
 use crate::instructions;
 use crate::text;
 
@@ -7,38 +8,39 @@ const LENGTH_SIZE: usize = 4;
 const INDEX_SIZE: usize = 8;
 
 // An entry and its source, against a table.
-fn resolve_entry(table: &[u8], rest: &[u8], out: &mut [u8]) -> usize {
+fn resolve_entry(table: &[u8], rest: &[u8]) -> bool {
     if rest.len() < instructions::ENTRY_SIZE {
-        return text::unknown(out);
+        return false;
     }
     let entry = instructions::entry_of(&rest[0..instructions::ENTRY_SIZE]);
     let answer = account::indexes::resolve(table, entry, &rest[instructions::ENTRY_SIZE..]);
-    text::put_decimal(out, 0, answer.number as u64)
+    text::print_number(answer.number as u64);
+    true
 }
 
 // A table of `len` bytes, an entry and its source.
-fn resolve_after(rest: &[u8], len: usize, out: &mut [u8]) -> usize {
+fn resolve_after(rest: &[u8], len: usize) -> bool {
     if rest.len() < len {
-        return text::unknown(out);
+        return false;
     }
-    resolve_entry(&rest[0..len], &rest[len..], out)
+    resolve_entry(&rest[0..len], &rest[len..])
 }
 
 // The table's length (4), the table, an entry and its source: resolving's number.
-pub(crate) fn resolve(payload: &[u8], out: &mut [u8]) -> usize {
+pub(crate) fn resolve(payload: &[u8]) -> bool {
     if payload.len() < LENGTH_SIZE {
-        return text::unknown(out);
+        return false;
     }
     let len = number::read_u32(payload, 0) as usize;
-    resolve_after(&payload[LENGTH_SIZE..], len, out)
+    resolve_after(&payload[LENGTH_SIZE..], len)
 }
 
 // An index (8) and a table: the key there, or an empty line.
-pub(crate) fn lookup(payload: &[u8], out: &mut [u8]) -> usize {
+pub(crate) fn lookup(payload: &[u8]) -> bool {
     if payload.len() < INDEX_SIZE {
-        return text::unknown(out);
+        return false;
     }
     let index = number::read_u64(payload, 0) as usize;
-    let found = account::indexes::lookup(&payload[INDEX_SIZE..], index);
-    text::put_hex(out, 0, found)
+    text::print_hex(account::indexes::lookup(&payload[INDEX_SIZE..], index));
+    true
 }

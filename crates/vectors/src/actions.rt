@@ -2,7 +2,7 @@
 use crate::text;
 
 // A region: creation's number.
-pub(crate) fn create(payload: &[u8], out: &mut [u8]) -> usize {
+pub(crate) fn create(payload: &[u8]) {
     let answer = creation::validate_actions_buffer(payload);
-    text::put_decimal(out, 0, answer.number as u64)
+    text::print_number(answer.number as u64);
 }

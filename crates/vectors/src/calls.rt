@@ -1,27 +1,36 @@
 // The judged call.
 use crate::text;
+use answer::Answer;
+use frame::Call;
 use frame::Frame;
-use frame::Opening;
 
-// Judges a call in place and puts the number and the region afterwards.
-fn judge_frame(region: &mut [u8], bytes: &[u8], out: &mut [u8]) -> usize {
-    let Frame::Whole(call) = frame::read_call(bytes) else {
-        return text::unknown(out);
-    };
-    let answer = judge::call::judge(
+fn judge_call(region: &mut [u8], bytes: &[u8], call: Call) -> Answer {
+    let earlier = call.earlier;
+    let later = call.later;
+    let instructions = call.instructions;
+    let vault = call.vault;
+    judge::call::judge(
         region,
-        frame::part_of(bytes, call.earlier),
-        frame::part_of(bytes, call.later),
-        frame::part_of(bytes, call.instructions),
-        frame::part_of(bytes, call.vault),
+        frame::part_of(bytes, earlier),
+        frame::part_of(bytes, later),
+        frame::part_of(bytes, instructions),
+        frame::part_of(bytes, vault),
         call.slot,
         call.before,
         call.after,
         call.gross,
-    );
-    let end = text::put_decimal(out, 0, answer.number as u64);
-    let end = text::put_byte(out, end, b' ');
-    text::put_hex(out, end, region)
+    )
+}
+
+// Judges a call in place and prints the number and the region afterwards.
+fn judge_frame(region: &mut [u8], bytes: &[u8]) -> bool {
+    let Frame::Whole(call) = frame::read_call(bytes) else {
+        return false;
+    };
+    let answer = judge_call(region, bytes, call);
+    text::print_number(answer.number as u64);
+    text::print_next_hex(region);
+    true
 }
 
 // Copies bytes to the front of a room, as far as they fit.
@@ -36,23 +45,25 @@ fn copy_to(room: &mut [u8], bytes: &[u8]) {
     }
 }
 
-// A replay's input of one call: the number and the region afterwards.
-pub(crate) fn judge(payload: &[u8], room: &mut [u8], out: &mut [u8]) -> usize {
-    let Opening::Region(part) = frame::read_opening(payload) else {
-        return text::unknown(out);
-    };
-    let region = frame::part_of(payload, part);
-    let len = region.len();
-    if room.len() < len {
-        return text::unknown(out);
-    }
-    if payload.len() < frame::REGION_LENGTH_SIZE {
-        return text::unknown(out);
-    }
-    let rest = &payload[frame::REGION_LENGTH_SIZE..];
+// A region of `len` bytes, which is judged on as a copy in the room, and a call.
+fn judge_after(rest: &[u8], len: usize, room: &mut [u8]) -> bool {
     if rest.len() < len {
-        return text::unknown(out);
+        return false;
     }
-    copy_to(room, region);
-    judge_frame(&mut room[0..len], &rest[len..], out)
+    if room.len() < len {
+        return false;
+    }
+    copy_to(room, &rest[0..len]);
+    judge_frame(&mut room[0..len], &rest[len..])
+}
+
+// A replay's input of one call: the number and the region afterwards. Says whether it is one. The
+// room holds the longest region that two bytes can announce.
+pub(crate) fn judge(payload: &[u8]) -> bool {
+    if payload.len() < frame::REGION_LENGTH_SIZE {
+        return false;
+    }
+    let len = frame::region_length(payload);
+    let mut room = [0u8; 65535];
+    judge_after(&payload[frame::REGION_LENGTH_SIZE..], len, &mut room)
 }

@@ -18,46 +18,44 @@ const PAYLOAD_PLACE: usize = 17;
 // What stands in the output before anything is written.
 const UNWRITTEN: u8 = 0xee;
 
-fn put_range(out: &mut [u8], at: usize, range: Range) -> usize {
-    let end = text::put_next(out, at, range.start as u64);
-    text::put_next(out, end, range.len as u64)
+fn print_range(range: Range) {
+    text::print_next(range.start as u64);
+    text::print_next(range.len as u64);
 }
 
-fn put_entry(out: &mut [u8], at: usize, entry: Entry) -> usize {
+fn print_entry(entry: Entry) {
     let accounts = entry.accounts;
     let payload = entry.payload;
-    let end = text::put_next(out, at, entry.program as u64);
-    let end = put_range(out, end, accounts);
-    put_range(out, end, payload)
+    text::print_next(entry.program as u64);
+    print_range(accounts);
+    print_range(payload);
 }
 
-fn put_entries(out: &mut [u8], at: usize, entries: Entries) -> usize {
+fn print_entries(entries: Entries) {
     let count = entries.count;
-    let mut end = at;
     let mut i = 0;
     while i < MAX_COMPACT_INSTRUCTIONS {
         if count <= i {
-            return end;
+            return;
         }
         let entry = entries.list[i];
-        end = put_entry(out, end, entry);
+        print_entry(entry);
         i += 1;
     }
-    end
 }
 
 // Bytes: the number; where they are read also the bytes consumed, the count and each entry.
-pub(crate) fn read(payload: &[u8], out: &mut [u8]) -> usize {
+pub(crate) fn read(payload: &[u8]) {
     let parsed = compact::parse_compact_instructions(payload);
     let answer = parsed.answer;
     let entries = parsed.entries;
-    let end = text::put_decimal(out, 0, answer.number as u64);
+    text::print_number(answer.number as u64);
     if !answer.accepts() {
-        return end;
+        return;
     }
-    let end = text::put_next(out, end, parsed.consumed as u64);
-    let end = text::put_next(out, end, entries.count as u64);
-    put_entries(out, end, entries)
+    text::print_next(parsed.consumed as u64);
+    text::print_next(entries.count as u64);
+    print_entries(entries);
 }
 
 fn range_at(payload: &[u8], at: usize) -> Range {
@@ -117,37 +115,39 @@ fn fill(room: &mut [u8]) {
     }
 }
 
-// Writes a list to an output and puts the number, the bytes written and the output.
-fn write_to(room: &mut [u8], entries: Entries, source: &[u8], out: &mut [u8]) -> usize {
+// Writes a list to an output and prints the number, the bytes written and the output.
+fn write_to(room: &mut [u8], entries: Entries, source: &[u8]) {
     fill(room);
     let written = compact::serialize_compact_instructions(entries, source, room);
     let answer = written.answer;
-    let end = text::put_decimal(out, 0, answer.number as u64);
-    let end = text::put_next(out, end, written.written as u64);
-    let end = text::put_byte(out, end, b' ');
-    text::put_hex(out, end, room)
+    text::print_number(answer.number as u64);
+    text::print_next(written.written as u64);
+    text::print_next_hex(room);
 }
 
 // A row of `count` entries, the output's length (4) and the source.
-fn write_after(rest: &[u8], count: u8, room: &mut [u8], out: &mut [u8]) -> usize {
+fn write_after(rest: &[u8], count: u8, room: &mut [u8]) -> bool {
     let row = count as usize * ENTRY_SIZE;
     let source = row + LENGTH_SIZE;
     if rest.len() < source {
-        return text::unknown(out);
+        return false;
     }
     let len = number::read_u32(rest, row) as usize;
     if room.len() < len {
-        return text::unknown(out);
+        return false;
     }
     let entries = entries_of(&rest[0..row], count as usize);
-    write_to(&mut room[0..len], entries, &rest[source..], out)
+    write_to(&mut room[0..len], entries, &rest[source..]);
+    true
 }
 
-// A count (1), as many entries, the output's length (4) and the source.
-pub(crate) fn write(payload: &[u8], room: &mut [u8], out: &mut [u8]) -> usize {
+// A count (1), as many entries, the output's length (4) and the source. Says whether they are there,
+// and the output no longer than the room.
+pub(crate) fn write(payload: &[u8]) -> bool {
     if payload.len() < 1 {
-        return text::unknown(out);
+        return false;
     }
     let count = payload[0];
-    write_after(&payload[1..], count, room, out)
+    let mut room = [0u8; 200000];
+    write_after(&payload[1..], count, &mut room)
 }

@@ -6,21 +6,21 @@ use key::Keys;
 const LENGTH_SIZE: usize = 4;
 
 // Whether the first `len` bytes and those after them are keys and the same.
-fn same_halves(both: &[u8], len: usize, out: &mut [u8]) -> usize {
+fn same_halves(both: &[u8], len: usize) -> bool {
     if both.len() < len {
-        return text::put_flag(out, 0, false);
+        return false;
     }
-    let is_same = key::same_key(&both[0..len], &both[len..]);
-    text::put_flag(out, 0, is_same)
+    key::same_key(&both[0..len], &both[len..])
 }
 
 // The first's length (4), the first, and the second: whether both are keys and the same.
-pub(crate) fn same(payload: &[u8], out: &mut [u8]) -> usize {
+pub(crate) fn same(payload: &[u8]) -> bool {
     if payload.len() < LENGTH_SIZE {
-        return text::unknown(out);
+        return false;
     }
     let len = number::read_u32(payload, 0) as usize;
-    same_halves(&payload[LENGTH_SIZE..], len, out)
+    text::print_flag(same_halves(&payload[LENGTH_SIZE..], len));
+    true
 }
 
 // The list of a row of keys.
@@ -35,19 +35,21 @@ fn filled(row: &[u8]) -> Keys {
     keys
 }
 
-// A row of keys: how many the list of all but the last has, and whether it holds the last.
-pub(crate) fn list(payload: &[u8], out: &mut [u8]) -> usize {
+// How many keys the list of a row has, and whether it holds a key.
+fn print_list(row: &[u8], sought: &[u8]) {
+    let keys = filled(row);
+    text::print_number(keys.count as u64);
+    text::print_byte(b' ');
+    text::print_flag(keys.holds(sought));
+}
+
+// A row of keys: the list of all but the last, and the last.
+pub(crate) fn list(payload: &[u8]) {
     let len = payload.len();
-    if len < KEY_LENGTH {
-        return text::put_byte(out, 0, b'-');
-    }
-    if len % KEY_LENGTH != 0 {
-        return text::put_byte(out, 0, b'-');
+    if len < KEY_LENGTH || len % KEY_LENGTH != 0 {
+        text::print_byte(b'-');
+        return;
     }
     let last = len - KEY_LENGTH;
-    let keys = filled(&payload[0..last]);
-    let end = text::put_decimal(out, 0, keys.count as u64);
-    let end = text::put_byte(out, end, b' ');
-    let is_held = keys.holds(&payload[last..]);
-    text::put_flag(out, end, is_held)
+    print_list(&payload[0..last], &payload[last..]);
 }

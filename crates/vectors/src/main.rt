@@ -10,67 +10,92 @@ mod numbers;
 mod text;
 
 use libc::STDIN_FILENO;
-use libc::STDOUT_FILENO;
 
 const HEAD_LENGTH: usize = 5;
 
-const MAX_PAYLOAD: usize = 200000;
+// What a case begins with: its kind and its payload's length.
+struct Head {
+    kind: u8,
+    len: usize,
+}
 
-// The line of a case, without its end. A kind's payload may be written to, and `room` is there for
-// its output.
-fn line(kind: u8, payload: &mut [u8], room: &mut [u8], out: &mut [u8]) -> usize {
+// What stands where a case may begin: its head, or the input's end.
+enum Next {
+    Case(Head),
+    End,
+}
+
+// The kinds that read their payload alone. Prints a case's line without its end, and says whether
+// there is such a kind and the payload is long enough for it.
+fn print_read(kind: u8, payload: &[u8]) -> bool {
     match kind {
-        1 => numbers::read(payload, out),
-        2 => numbers::write(payload, out),
-        3 => numbers::sum(payload, out),
-        4 => numbers::difference(payload, out),
-        5 => keys::same(payload, out),
-        6 => keys::list(payload, out),
-        10 => actions::create(payload, out),
-        20 => instructions::read(payload, out),
-        21 => instructions::write(payload, room, out),
-        30 => accounts::resolve(payload, out),
-        31 => accounts::lookup(payload, out),
-        40 => calls::judge(payload, room, out),
-        _ => text::unknown(out),
+        5 => keys::same(payload),
+        6 => {
+            keys::list(payload);
+            true
+        }
+        10 => {
+            actions::create(payload);
+            true
+        }
+        20 => {
+            instructions::read(payload);
+            true
+        }
+        21 => instructions::write(payload),
+        30 => accounts::resolve(payload),
+        31 => accounts::lookup(payload),
+        40 => calls::judge(payload),
+        _ => numbers::print(kind, payload),
     }
 }
 
-// Writes the line of a case, and says whether it could.
-fn print_line(kind: u8, payload: &mut [u8], room: &mut [u8], out: &mut [u8]) -> bool {
-    let end = line(kind, payload, room, out);
-    let end = text::put_byte(out, end, b'\n');
-    if out.len() < end {
+// Every kind: as above, and the one that writes to its payload.
+fn print_case(kind: u8, payload: &mut [u8]) -> bool {
+    match kind {
+        2 => numbers::write(payload),
+        _ => print_read(kind, payload),
+    }
+}
+
+// Reads a payload and writes its line; says whether to go on.
+fn answer_payload(kind: u8, payload: &mut [u8]) -> bool {
+    if io::read_full(STDIN_FILENO, payload) < payload.len() {
         return false;
     }
-    io::write_all(STDOUT_FILENO, &out[0..end])
+    if !print_case(kind, payload) {
+        text::print_byte(b'?');
+    }
+    text::print_byte(b'\n')
 }
 
-// Reads a case and writes its line; says whether to go on.
-fn answer_one(payload: &mut [u8], room: &mut [u8], out: &mut [u8]) -> bool {
+fn read_head() -> Next {
     let mut head = [0u8; 5];
     if io::read_full(STDIN_FILENO, &mut head) < HEAD_LENGTH {
-        return false;
+        return Next::End;
     }
     let kind = head[0];
     let len = number::read_u32(&head, 1) as usize;
-    if MAX_PAYLOAD < len {
+    Next::Case(Head { kind, len })
+}
+
+// Reads a case and writes its line; says whether to go on.
+fn answer_one(payload: &mut [u8]) -> bool {
+    let Next::Case(head) = read_head() else {
         return false;
-    }
+    };
+    let len = head.len;
     if payload.len() < len {
         return false;
     }
-    if io::read_full(STDIN_FILENO, &mut payload[0..len]) < len {
-        return false;
-    }
-    print_line(kind, &mut payload[0..len], room, out)
+    answer_payload(head.kind, &mut payload[0..len])
 }
 
 // A proved loop has to end, so it counts its turns down, from a number that no run uses up.
-fn answer_all(payload: &mut [u8], room: &mut [u8], out: &mut [u8]) {
+fn answer_all(payload: &mut [u8]) {
     let mut turns = u64::MAX;
     while turns > 0 {
-        if !answer_one(payload, room, out) {
+        if !answer_one(payload) {
             return;
         }
         turns -= 1;
@@ -79,7 +104,5 @@ fn answer_all(payload: &mut [u8], room: &mut [u8], out: &mut [u8]) {
 
 fn main() {
     let mut payload = [0u8; 200000];
-    let mut room = [0u8; 200000];
-    let mut out = [0u8; 524288];
-    answer_all(&mut payload, &mut room, &mut out);
+    answer_all(&mut payload);
 }

@@ -1,68 +1,46 @@
-// A line is built at the front of a lent buffer: each function puts text at a place and gives the
-// place after it. What does not fit is left out.
-pub(crate) fn put_byte(out: &mut [u8], at: usize, byte: u8) -> usize {
-    if at < out.len() {
-        out[at] = byte;
-        return at + 1;
-    }
-    at
+// The pieces of a line, each written to standard output as it is found. No buffer is lent for them:
+// a proof names every slice that a function holds, at each of its steps.
+use libc::STDOUT_FILENO;
+
+const BYTE_DIGITS: usize = 2;
+
+pub(crate) fn print_byte(byte: u8) -> bool {
+    let piece = [byte];
+    io::write_all(STDOUT_FILENO, &piece)
 }
 
-pub(crate) fn put_bytes(out: &mut [u8], at: usize, bytes: &[u8]) -> usize {
-    let mut end = at;
-    let mut i = 0;
-    while i < bytes.len() {
-        end = put_byte(out, end, bytes[i]);
-        i += 1;
-    }
-    end
-}
-
-pub(crate) fn put_decimal(out: &mut [u8], at: usize, n: u64) -> usize {
-    let mut digits = [0u8; 20];
-    let k = io::decimal(n, &mut digits);
-    put_bytes(out, at, &digits[..k])
+pub(crate) fn print_number(n: u64) {
+    io::print_decimal(STDOUT_FILENO, n);
 }
 
 // A space and a number.
-pub(crate) fn put_next(out: &mut [u8], at: usize, n: u64) -> usize {
-    let end = put_byte(out, at, b' ');
-    put_decimal(out, end, n)
+pub(crate) fn print_next(n: u64) {
+    print_byte(b' ');
+    print_number(n);
 }
 
-pub(crate) fn put_flag(out: &mut [u8], at: usize, flag: bool) -> usize {
+pub(crate) fn print_flag(flag: bool) {
     if flag {
-        return put_byte(out, at, b'1');
+        print_byte(b'1');
+        return;
     }
-    put_byte(out, at, b'0')
+    print_byte(b'0');
 }
 
-fn hex_digit(value: u8) -> u8 {
-    if value < 10 {
-        return b'0' + value;
-    }
-    if value < 16 {
-        return b'a' - 10 + value;
-    }
-    b'?'
+fn print_hex_byte(byte: u8) {
+    io::print_hex(STDOUT_FILENO, byte as u64, BYTE_DIGITS);
 }
 
-fn put_hex_byte(out: &mut [u8], at: usize, byte: u8) -> usize {
-    let end = put_byte(out, at, hex_digit(byte / 16));
-    put_byte(out, end, hex_digit(byte % 16))
-}
-
-pub(crate) fn put_hex(out: &mut [u8], at: usize, bytes: &[u8]) -> usize {
-    let mut end = at;
+pub(crate) fn print_hex(bytes: &[u8]) {
     let mut i = 0;
     while i < bytes.len() {
-        end = put_hex_byte(out, end, bytes[i]);
+        print_hex_byte(bytes[i]);
         i += 1;
     }
-    end
 }
 
-// The line of an unknown kind, and of a payload that is too short for its kind.
-pub(crate) fn unknown(out: &mut [u8]) -> usize {
-    put_byte(out, 0, b'?')
+// A space and bytes.
+pub(crate) fn print_next_hex(bytes: &[u8]) {
+    print_byte(b' ');
+    print_hex(bytes);
 }

@@ -1,4 +1,4 @@
--- `vectors::answer_all` is safe and ends: the turns that are left fall, and the lent buffers keep their lengths.
+-- `vectors::answer_all` is safe and ends: the turns that are left fall, and the lent buffer keeps its length.
 -- Assumes nothing.
 use mathlib.Core.Path.{_≡_}
 use lib.ListN.{length}
@@ -7,10 +7,10 @@ use Rattle.vectors.proofs.answer_all.Statement.{statement}
 use Rattle.vectors.proofs.answer_all.Tie as tie
 
 abbrev Inv-loop : tie.InvT-loop
-Inv-loop payload₀ room₀ out₀ turns₀ payload room out turns = (length payload ≡ length payload₀) × (length room ≡ length room₀) × (length out ≡ length out₀)
+Inv-loop payload₀ turns₀ payload turns = length payload ≡ length payload₀
 
 abbrev μ-loop : tie.MeasureT-loop
-μ-loop payload₀ room₀ out₀ turns₀ payload room out turns = turns
+μ-loop payload₀ turns₀ payload turns = turns
 
 loop-holds : tie.Need-loop-holds Inv-loop μ-loop
 loop-holds c = search needs
@@ -20,12 +20,6 @@ answer-one-requires c κs = search needs
 
 same-length : tie.Need-same-length Inv-loop μ-loop
 same-length c = search needs
-
-same-length-2 : tie.Need-same-length-2 Inv-loop μ-loop
-same-length-2 c = search needs
-
-same-length-3 : tie.Need-same-length-3 Inv-loop μ-loop
-same-length-3 c = search needs
 
 returns : tie.Need-returns Inv-loop μ-loop
 returns c = search needs
@@ -39,14 +33,8 @@ loop-less c = search needs
 loop-again : tie.Need-loop-again Inv-loop μ-loop
 loop-again c = search needs
 
-same-length-4 : tie.Need-same-length-4 Inv-loop μ-loop
-same-length-4 c = search needs
-
-same-length-5 : tie.Need-same-length-5 Inv-loop μ-loop
-same-length-5 c = search needs
-
-same-length-6 : tie.Need-same-length-6 Inv-loop μ-loop
-same-length-6 c = search needs
+same-length-2 : tie.Need-same-length-2 Inv-loop μ-loop
+same-length-2 c = search needs
 
 returns-2 : tie.Need-returns-2 Inv-loop μ-loop
 returns-2 c = search needs
@@ -60,13 +48,9 @@ answer-all-spec =
     loop-holds
     answer-one-requires
     same-length
-    same-length-2
-    same-length-3
     returns
     sub-turns
     loop-less
     loop-again
-    same-length-4
-    same-length-5
-    same-length-6
+    same-length-2
     returns-2)
