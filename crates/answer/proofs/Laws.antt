@@ -2,10 +2,10 @@
 -- Assumes nothing.
 use mathlib.Core.Path.{_≡_, refl, sym, ap, _∙_}
 use mathlib.Core.Bool.{Bool, true, false}
-use mathlib.Core.List.{List, [], _∷_}
+use mathlib.Core.List.{List, [], _∷_, _++_}
 use Prim.Native.Nat.{ℕ, _<_}
 use native.Mathlib.Omega.{arith}
-use borrow.Author.Tests.{ne-eqb}
+use borrow.Author.Tests.{ne-eqb, eqb-true}
 use Rattle.answer.specs.declared.Answer.{Answer}
 use Rattle.answer.specs.Numbers.{answer, accepted, accepts, firstRefusal, refuseIf}
 
@@ -26,6 +26,26 @@ rule-broken broken n l pos e = rw e (first-refuses (answer n) l (ne-eqb n 0 (λ 
 pub no-rule : firstRefusal [] ≡ answer accepted
 unfolding firstRefusal
 no-rule = refl
+
+pub accepted-is : (a : Answer) → accepts a ≡ true → a ≡ answer accepted
+accepted-is a e = ap answer (eqb-true (a .number) 0 e)
+
+pub only : (a : Answer) → firstRefusal (a ∷ []) ≡ a
+only a = go (accepts a) refl
+  where
+    go : (t : Bool) → accepts a ≡ t → firstRefusal (a ∷ []) ≡ a
+    go true e = first-passes a [] e ∙ no-rule ∙ sym (accepted-is a e)
+    go false e = first-refuses a [] e
+
+-- the first refusal of two lists
+pub first-append : (xs ys : List Answer) → firstRefusal (xs ++ ys) ≡ firstRefusal (firstRefusal xs ∷ firstRefusal ys ∷ [])
+first-append [] ys = sym (ap (λ (a : Answer). firstRefusal (a ∷ firstRefusal ys ∷ [])) no-rule ∙ first-passes (answer accepted) _ refl ∙ only (firstRefusal ys))
+first-append (a ∷ xs) ys = go (accepts a) refl (first-append xs ys)
+  where
+    go : (t : Bool) → accepts a ≡ t → firstRefusal (xs ++ ys) ≡ firstRefusal (firstRefusal xs ∷ firstRefusal ys ∷ [])
+        → firstRefusal ((a ∷ xs) ++ ys) ≡ firstRefusal (firstRefusal (a ∷ xs) ∷ firstRefusal ys ∷ [])
+    go true e more = first-passes a (xs ++ ys) e ∙ more ∙ ap (λ (b : Answer). firstRefusal (b ∷ firstRefusal ys ∷ [])) (sym (first-passes a xs e))
+    go false e more = first-refuses a (xs ++ ys) e ∙ sym (ap (λ (b : Answer). firstRefusal (b ∷ firstRefusal ys ∷ [])) (first-refuses a xs e) ∙ first-refuses a _ e)
 
 -- each of some answers accepts
 abbrev pub EachAccepts : List Answer → Type 0

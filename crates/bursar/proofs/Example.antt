@@ -16,8 +16,8 @@ use Rattle.compact.specs.Compact.{mostInstructions, byte, front, decodeOne, dec
 use Rattle.account.specs.Table.{cutTable, cutRecords, firstRecord}
 use Rattle.token.specs.Tokens.{balance}
 use Rattle.limit.specs.Limit.{refusalOf, windowOver, base, above, breaks, ruleAnswer, isSol, ofClass, classAnswer, spentChange, isLimit, liveChange, changeOf, settled}
-use Rattle.judge.specs.Freeze.{allFrozen}
-use Rattle.judge.specs.Programs.{programsAnswer}
+use Rattle.freeze.specs.Freeze.{allFrozen}
+use Rattle.programs.specs.Programs.{programsAnswer}
 use Rattle.judge.specs.Judge.{recordsBefore, recordsAfter, decrease, amountFor, charged, soundness, rules, steps, judged, regionAfter}
 use Rattle.judge.specs.NamedValues.{called, spending}
 use Rattle.bursar.specs.Run.{sol, tokens, afterRun, numbersOf, takenBy, takenWhere}

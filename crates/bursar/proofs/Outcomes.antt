@@ -40,9 +40,9 @@ use Rattle.account.specs.declared.RecordView.{RecordView}
 use Rattle.token.specs.Tokens.{balance as balanceOf, isCounted, isTokenAccount, mintOf}
 use Rattle.limit.specs.Limit.{changeOf, classAnswer, ruleAnswer}
 use Rattle.limit.specs.Views.{chargesAt, settledAt}
-use Rattle.judge.specs.Freeze.{allFrozen}
+use Rattle.programs.specs.Programs.{programsAnswer}
+use Rattle.freeze.specs.Freeze.{allFrozen}
 use Rattle.judge.specs.Judge.{judged, regionAfter}
-use Rattle.judge.specs.Programs.{programsAnswer}
 use Rattle.judge.specs.Views.{amountFrom, amountsOf as judge-amountsOf}
 use Rattle.judge.specs.declared.amounts.Sums.{Sums}
 use Rattle.frame.specs.Frame.{callOf, noTally, openingOf, partIn, partsToRead, tallied}
@@ -405,6 +405,20 @@ pub limit-settle : (region actions amounts : List ℕ) (slot : ℕ)
     → OneOutcome (λ (o : List ℕ). o ≡ settledAt slot actions amounts region)
 limit-settle _ _ _ _ _ _ p q = one-outcome p q
 
+-- ---- programs
+
+-- programs::evaluate_pre_actions
+pub programs-evaluate-pre-actions : (region actions table places programs : List ℕ) (slot : ℕ)
+    → OneOutcome (λ (r : Answer). r ≡ programsAnswer slot (actionsIn region actions) (recordsIn table places) programs)
+programs-evaluate-pre-actions _ _ _ _ _ _ _ _ p q = one-outcome p q
+
+-- ---- freeze
+
+-- freeze::verify_token_authorities_unchanged
+pub freeze-verify-token-authorities-unchanged : (before «before_places» after «after_places» vault : List ℕ) (mints : Keys)
+    → OneOutcome (λ (r : Bool). r ≡ allFrozen vault (λ (mint : List ℕ). isAmong mint (keysIn mints)) (recordsIn after «after_places») (recordsIn before «before_places»))
+freeze-verify-token-authorities-unchanged _ _ _ _ _ _ _ _ p q = one-outcome p q
+
 -- ---- judge
 
 -- judge::amounts::amounts
@@ -416,16 +430,6 @@ judge-amounts-amounts _ _ _ _ _ _ _ _ _ _ _ _ p q = one-outcome p q
 pub judge-call-judge : (region before after instructions vault : List ℕ) (slot «lamports_before» «lamports_after» gross : ℕ)
     → OneOutcome (λ (o : Answer × List ℕ). (o .0 ≡ judged region (record { before = before; after = after; instructions = instructions; vault = vault; slot = slot; lamportsBefore = «lamports_before»; lamportsAfter = «lamports_after»; gross = gross })) × (o .1 ≡ regionAfter region (record { before = before; after = after; instructions = instructions; vault = vault; slot = slot; lamportsBefore = «lamports_before»; lamportsAfter = «lamports_after»; gross = gross })))
 judge-call-judge _ _ _ _ _ _ _ _ _ _ _ p q = one-outcome (both p) (both q)
-
--- judge::freeze::verify_token_authorities_unchanged
-pub judge-freeze-verify-token-authorities-unchanged : (before «before_places» after «after_places» vault : List ℕ) (mints : Keys)
-    → OneOutcome (λ (r : Bool). r ≡ allFrozen vault (λ (mint : List ℕ). isAmong mint (keysIn mints)) (recordsIn after «after_places») (recordsIn before «before_places»))
-judge-freeze-verify-token-authorities-unchanged _ _ _ _ _ _ _ _ p q = one-outcome p q
-
--- judge::programs::evaluate_pre_actions
-pub judge-programs-evaluate-pre-actions : (region actions table places programs : List ℕ) (slot : ℕ)
-    → OneOutcome (λ (r : Answer). r ≡ programsAnswer slot (actionsIn region actions) (recordsIn table places) programs)
-judge-programs-evaluate-pre-actions _ _ _ _ _ _ _ _ p q = one-outcome p q
 
 -- ---- thimbleford
 

@@ -1,5 +1,3 @@
-pub mod Freezing
-pub mod Lists
 pub mod NamedValues
 pub mod Outflow
 pub mod Steps

@@ -1,6 +1,6 @@
 -- The named values hold: those of judged calls by computation, and with those of creation and of compact instructions as one table.
 -- Assumes nothing.
-use mathlib.Core.Path.{_≡_, refl}
+use mathlib.Core.Path.{refl}
 use mathlib.Core.List.{List, [], _∷_, _++_}
 use Rattle.answer.specs.NamedValue.{NamedValue, AsNamed}
 use Rattle.answer.specs.Numbers.{firstRefusal}
@@ -18,8 +18,8 @@ use Rattle.compact.proofs.NamedValues.{as-named as compact-as-named}
 use Rattle.account.specs.Table.{cutTable, cutRecords, firstRecord}
 use Rattle.token.specs.Tokens.{balance}
 use Rattle.limit.specs.Limit.{refusalOf, windowOver, base, above, breaks, ruleAnswer, isSol, ofClass, classAnswer, spentChange, isLimit, liveChange, changeOf, settled}
-use Rattle.judge.specs.Freeze.{allFrozen}
-use Rattle.judge.specs.Programs.{programsAnswer}
+use Rattle.freeze.specs.Freeze.{allFrozen}
+use Rattle.programs.specs.Programs.{programsAnswer}
 use Rattle.judge.specs.Judge.{recordsBefore, recordsAfter, decrease, amountFor, charged, soundness, rules, steps, judged, regionAfter}
 use Rattle.judge.specs.NamedValues.{one, left, recurring, called, spending, outcome, callValues, namedValues}
 

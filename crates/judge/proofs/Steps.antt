@@ -4,7 +4,7 @@ use mathlib.Core.Path.{_≡_, refl, sym, ap, ap₂, _∙_}
 use mathlib.Core.Bool.{Bool, true, false, not, cond, _&&_}
 use mathlib.Core.List.{List, [], _∷_, _++_, map}
 use mathlib.Core.Option.{Option, none, some}
-use Prim.Native.Nat.{ℕ, _+_, _-_, _*_, _<_, _≤_}
+use Prim.Native.Nat.{ℕ, _-_, _*_, _<_, _≤_}
 use native.Mathlib.Omega.{arith}
 use borrow.Author.Tests.{eq-eqb, ne-eqb}
 use lib.Dec.{lit<}
@@ -13,7 +13,7 @@ use lib.Seq.{take-all}
 use Rattle.answer.specs.declared.Answer.{Answer}
 use Rattle.answer.specs.Numbers.{answer, accepted, accepts, firstRefusal, refuseIf, badTable, badRegion, sessionTokenAuthorityChanged}
 use Rattle.answer.specs.Refusable.{Refusable, given, refused}
-use Rattle.answer.proofs.Laws.{first-passes, first-refuses, rule-holds, rule-broken, no-rule}
+use Rattle.answer.proofs.Laws.{first-passes, first-refuses, rule-holds, rule-broken, no-rule, only, first-append}
 use Rattle.number.specs.Number.{Bytes}
 use Rattle.key.specs.declared.Keys.{Keys}
 use Rattle.key.specs.Key.{isAmong, keysIn}
@@ -41,23 +41,11 @@ use Rattle.account.proofs.Views.{records-of-places}
 use Rattle.limit.specs.Limit.{Charge, classAnswer, settled}
 use Rattle.limit.specs.Views.{charges, chargesAt, settledViews, settledAt}
 use Rattle.limit.proofs.Settling.{settle-glued}
-use Rattle.judge.specs.Freeze.{allFrozen}
-use Rattle.judge.specs.Programs.{programsAnswer}
+use Rattle.freeze.specs.Freeze.{allFrozen}
+use Rattle.programs.specs.Programs.{programsAnswer}
 use Rattle.judge.specs.Judge.{Call, answerOf, recordsBefore, recordsAfter, programsOf, readAnswer, actionsOf, decrease, amountFor, charged, soundness, rules, steps, judged, regionAfter}
 use Rattle.judge.specs.Views.{decreaseOf, solAmount, amountFrom, amountsOf, frozenFrom, checksFrom, limitsFrom, rulesFrom}
-use Rattle.judge.proofs.Freezing.{frozen-alike}
-use Rattle.judge.proofs.Lists.{only}
-
--- ---- the first refusal of two lists
-
-pub first-append : (xs ys : List Answer) → firstRefusal (xs ++ ys) ≡ firstRefusal (firstRefusal xs ∷ firstRefusal ys ∷ [])
-first-append [] ys = sym (ap (λ (a : Answer). firstRefusal (a ∷ firstRefusal ys ∷ [])) no-rule ∙ first-passes (answer accepted) _ refl ∙ only (firstRefusal ys))
-first-append (a ∷ xs) ys = go (accepts a) refl (first-append xs ys)
-  where
-    go : (t : Bool) → accepts a ≡ t → firstRefusal (xs ++ ys) ≡ firstRefusal (firstRefusal xs ∷ firstRefusal ys ∷ [])
-        → firstRefusal ((a ∷ xs) ++ ys) ≡ firstRefusal (firstRefusal (a ∷ xs) ∷ firstRefusal ys ∷ [])
-    go true e more = first-passes a (xs ++ ys) e ∙ more ∙ ap (λ (b : Answer). firstRefusal (b ∷ firstRefusal ys ∷ [])) (sym (first-passes a xs e))
-    go false e more = first-refuses a (xs ++ ys) e ∙ sym (ap (λ (b : Answer). firstRefusal (b ∷ firstRefusal ys ∷ [])) (first-refuses a xs e) ∙ first-refuses a _ e)
+use Rattle.freeze.proofs.Freezing.{frozen-alike}
 
 -- ---- steps 5 to 8, from what was cut
 

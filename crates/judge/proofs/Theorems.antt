@@ -27,8 +27,8 @@ use Rattle.account.specs.Indexes.{keyAmong}
 use Rattle.account.proofs.Theorems.{every-refusal-of-a-table-is-13}
 use Rattle.limit.specs.Limit.{Charge, refusalOf, breaks, ruleAnswer, ofClass, classAnswer, changeOf, settled}
 use Rattle.limit.proofs.Taking.{EachKept, each-kept}
-use Rattle.judge.specs.Freeze.{allFrozen}
-use Rattle.judge.specs.Programs.{inLiveList, listsAnswer, programAnswer, programsAnswer}
+use Rattle.freeze.specs.Freeze.{allFrozen}
+use Rattle.programs.specs.Programs.{inLiveList, listsAnswer, programAnswer, programsAnswer}
 use Rattle.judge.specs.Judge.{Call, answerOf, recordsBefore, recordsAfter, programsOf, readAnswer, actionsOf, amountFor, charged, soundness, rules, steps, judged, regionAfter}
 use Rattle.judge.proofs.Steps.{refused-keeps, stored-refusal}
 

@@ -1,7 +1,7 @@
 -- The judged call: nine steps, the first failure decides, and only an accepted call writes.
 -- Assumes nothing.
 use Prim.Native.Nat.{ℕ}
-use mathlib.Core.Bool.{Bool, true, false, not, cond}
+use mathlib.Core.Bool.{true, false, not, cond}
 use mathlib.Core.List.{List, [], _∷_, _++_, map}
 use mathlib.Core.Option.{Option, none, some}
 use lib.Dec.{eqb}
@@ -19,8 +19,8 @@ use Rattle.compact.specs.Compact.{Instruction, Read, decode}
 use Rattle.account.specs.Table.{Record, cutTable, recordsOf}
 use Rattle.token.specs.Tokens.{balance}
 use Rattle.limit.specs.Limit.{Charge, classAnswer, settled}
-use Rattle.judge.specs.Programs.{programsAnswer}
-use Rattle.judge.specs.Freeze.{allFrozen}
+use Rattle.programs.specs.Programs.{programsAnswer}
+use Rattle.freeze.specs.Freeze.{allFrozen}
 
 -- what a judged call is given besides the region
 pub record Call : Type 0 where

@@ -2,7 +2,7 @@
 -- Assumes nothing.
 use Prim.Native.Nat.{ℕ, _-_}
 use mathlib.Core.Bool.{Bool, true, false, not, cond}
-use mathlib.Core.List.{List, [], _∷_, _++_, map}
+use mathlib.Core.List.{List, [], _∷_, _++_}
 use lib.Dec.{eqb}
 use lib.ListN.{length, take, replicate}
 use Rattle.answer.specs.declared.Answer.{Answer}
@@ -16,9 +16,9 @@ use Rattle.account.specs.Table.{Record}
 use Rattle.token.specs.Tokens.{balance}
 use Rattle.limit.specs.Limit.{Charge, classAnswer}
 use Rattle.judge.specs.declared.amounts.Sums.{Sums}
-use Rattle.judge.specs.Freeze.{allFrozen}
+use Rattle.freeze.specs.Freeze.{allFrozen}
 use Rattle.judge.specs.Judge.{decrease}
-use Rattle.judge.specs.Programs.{programsAnswer}
+use Rattle.programs.specs.Programs.{programsAnswer}
 
 -- how much a mint's balance went down
 unfoldable pub decreaseOf : List ℕ → List Record → List Record → List ℕ → ℕ

@@ -1,7 +1,5 @@
 // The nine steps.
 use crate::amounts::amounts;
-use crate::freeze::verify_token_authorities_unchanged;
-use crate::programs::evaluate_pre_actions;
 use account::fields::places_in;
 use account::parse::cut_places;
 use action::mints::listed_mints;
@@ -15,11 +13,13 @@ use answer::SESSION_TOKEN_AUTHORITY_CHANGED;
 use compact::parse_programs;
 use compact::programs_in;
 use creation::stored_answer;
+use freeze::verify_token_authorities_unchanged;
 use key::KEY_LENGTH;
 use key::Keys;
 use limit::class_answer;
 use limit::settle;
 use number::floored_difference;
+use programs::evaluate_pre_actions;
 ghost use mathlib.Core.Path.{_≡_};
 ghost use mathlib.Core.Bool.{true, cond};
 ghost use mathlib.Core.List.{map};

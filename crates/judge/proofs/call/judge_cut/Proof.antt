@@ -1,21 +1,21 @@
 -- `judge::call::judge_cut` meets its contract: an empty region has no rules; the checks decide before the limits; only what passes both is settled.
 -- Assumes nothing.
 use Prim.Native.Nat.{_<_, _≤_}
-use mathlib.Core.Path.{_≡_, refl, sym, ap, _∙_}
+use mathlib.Core.Path.{_≡_, sym, ap, _∙_}
 use native.Mathlib.Omega.{arith}
 use borrow.Author.Tests.{not-true, not-false}
 use lib.ListN.{length}
 use mathlib.Core.List.{List}
 use Rattle.answer.specs.declared.Answer.{Answer}
 use Rattle.answer.specs.Numbers.{accepts}
+use Rattle.answer.proofs.Laws.{accepted-is}
 use Rattle.action.specs.Region.{Action}
 use Rattle.action.specs.Mints.{listedMints}
-use Rattle.action.specs.Views.{viewsOf, actionsIn}
+use Rattle.action.specs.Views.{actionsIn}
 use Rattle.action.proofs.Views.{length-actions}
 use Rattle.account.specs.Views.{recordsIn}
 use Rattle.key.specs.declared.Keys.{Keys}
 use Rattle.judge.specs.Views.{checksFrom}
-use Rattle.judge.proofs.Lists.{accepted-is}
 use Rattle.judge.proofs.Steps.{no-rules, rules-unchecked, rules-checked, no-views-settled, region-kept, region-written}
 use borrow.Author.Needs.{needs}
 use Rattle.judge.proofs.call.judge_cut.Statement.{statement}

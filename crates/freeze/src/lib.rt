@@ -1,0 +1,168 @@
+// Step 6: the authorities of the vault's token accounts of listed mints stay as they were.
+use account::RecordView;
+use account::fields::record_key;
+use account::fields::record_payload;
+use account::fields::view_in;
+use key::KEY_LENGTH;
+use key::Key;
+use key::Keys;
+use key::MAX_KEYS;
+use token::is_counted;
+use token::is_token_account;
+use token::mint_of;
+ghost use mathlib.Core.Path.{_≡_};
+ghost use mathlib.Core.List.{List};
+ghost use Prim.Native.Nat.{ℕ};
+ghost use lib.ListN.{take, drop};
+ghost use Rattle.key.specs.Key.{sameKey, isAmong, keysIn};
+ghost use Rattle.account.specs.Views.{recordAt, recordsIn};
+ghost use Rattle.freeze.specs.Freeze.{firstWithKey, samePart, sameAuthorities, isStill, isFoundStill, keepsFreeze, allFrozen};
+
+const OWNER_OFFSET: usize = 32;
+
+const DELEGATE_OFFSET: usize = 72;
+
+const CLOSE_AUTHORITY_OFFSET: usize = 129;
+
+const AUTHORITY_LENGTH: usize = 36;
+
+// The `size` bytes from `at` on, as far as they are there.
+fn part_of(bytes: &[u8], at: usize, size: usize) -> &[u8]
+    ensures { λ r. ⌜ now r ≡ take size (drop at (now (bytes .entry))) ⌝ }
+{
+    if bytes.len() < at {
+        return &bytes[..0];
+    }
+    if bytes.len() - at < size {
+        return &bytes[at..];
+    }
+    &bytes[at..at + size]
+}
+
+fn same_part(a: &[u8], b: &[u8], at: usize, size: usize) -> bool
+    ensures { λ r. ⌜ r ≡ samePart at size (now (a .entry)) (now (b .entry)) ⌝ }
+{
+    key::same_bytes(part_of(a, at, size), part_of(b, at, size))
+}
+
+fn same_authorities(a: &[u8], b: &[u8]) -> bool
+    ensures { λ r. ⌜ r ≡ sameAuthorities (now (a .entry)) (now (b .entry)) ⌝ }
+{
+    if !same_part(a, b, OWNER_OFFSET, KEY_LENGTH) {
+        return false;
+    }
+    if !same_part(a, b, DELEGATE_OFFSET, AUTHORITY_LENGTH) {
+        return false;
+    }
+    same_part(a, b, CLOSE_AUTHORITY_OFFSET, AUTHORITY_LENGTH)
+}
+
+// Whether a record is still the account that had the data.
+fn is_still(payload: &[u8], table: &[u8], view: RecordView) -> bool
+    ensures { λ r. ⌜ r ≡ isStill (now (payload .entry)) (recordAt (now (table .entry)) view) ⌝ }
+{
+    if !is_token_account(table, view) {
+        return false;
+    }
+    same_authorities(payload, record_payload(table, view))
+}
+
+// Whether the first record with the key is still that account.
+fn still_there(payload: &[u8], key: &[u8], table: &[u8], places: &[usize]) -> bool
+    ensures { λ r. ⌜ r ≡ isFoundStill (now (payload .entry)) (firstWithKey (now (key .entry)) (recordsIn (now (table .entry)) (now (places .entry)))) ⌝ }
+{
+    let n = places.len() / 2;
+    let mut i = 0;
+    while i < n {
+        let view = view_in(places, i);
+        if key::same_key(record_key(table, view), key) {
+            return is_still(payload, table, view);
+        }
+        i += 1;
+    }
+    false
+}
+
+fn keeps_freeze(
+    before: &[u8],
+    view: RecordView,
+    after: &[u8],
+    places: &[usize],
+    vault: &[u8],
+    mint: &[u8],
+) -> bool
+    ensures { λ r. ⌜ r ≡ keepsFreeze (now (vault .entry)) (sameKey (now (mint .entry))) (recordsIn (now (after .entry)) (now (places .entry))) (recordAt (now (before .entry)) view) ⌝ }
+{
+    if !key::same_key(mint, mint_of(before, view)) {
+        return true;
+    }
+    if !is_counted(before, view, vault) {
+        return true;
+    }
+    let payload = record_payload(before, view);
+    still_there(payload, record_key(before, view), after, places)
+}
+
+// Whether each counted account of the table before that has the mint is still there after.
+fn mint_frozen(
+    before: &[u8],
+    before_places: &[usize],
+    after: &[u8],
+    after_places: &[usize],
+    vault: &[u8],
+    mint: &[u8],
+) -> bool
+    ensures { λ r. ⌜ r ≡ allFrozen (now (vault .entry)) (sameKey (now (mint .entry))) (recordsIn (now (after .entry)) (now («after_places» .entry))) (recordsIn (now (before .entry)) (now («before_places» .entry))) ⌝ }
+{
+    let n = before_places.len() / 2;
+    let mut i = 0;
+    while i < n {
+        let view = view_in(before_places, i);
+        if !keeps_freeze(before, view, after, after_places, vault, mint) {
+            return false;
+        }
+        i += 1;
+    }
+    true
+}
+
+fn key_frozen(
+    before: &[u8],
+    before_places: &[usize],
+    after: &[u8],
+    after_places: &[usize],
+    vault: &[u8],
+    key: Key,
+) -> bool
+    ensures { λ r. ⌜ r ≡ allFrozen (now (vault .entry)) (sameKey (key .bytes)) (recordsIn (now (after .entry)) (now («after_places» .entry))) (recordsIn (now (before .entry)) (now («before_places» .entry))) ⌝ }
+{
+    let mint = key.bytes;
+    mint_frozen(before, before_places, after, after_places, vault, &mint)
+}
+
+// Whether each counted account of the table before whose mint is listed is still there after, mint by
+// mint: the list is not handed on.
+pub fn verify_token_authorities_unchanged(
+    before: &[u8],
+    before_places: &[usize],
+    after: &[u8],
+    after_places: &[usize],
+    vault: &[u8],
+    mints: Keys,
+) -> bool
+    ensures { λ r. ⌜ r ≡ allFrozen (now (vault .entry)) (λ (mint : List ℕ). isAmong mint (keysIn mints)) (recordsIn (now (after .entry)) (now («after_places» .entry))) (recordsIn (now (before .entry)) (now («before_places» .entry))) ⌝ }
+{
+    let count = mints.count;
+    let mut i = 0;
+    while i < MAX_KEYS {
+        if count <= i {
+            return true;
+        }
+        let k = mints.list[i];
+        if !key_frozen(before, before_places, after, after_places, vault, k) {
+            return false;
+        }
+        i += 1;
+    }
+    true
+}
