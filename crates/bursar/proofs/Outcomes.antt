@@ -42,10 +42,10 @@ use Rattle.limit.specs.Limit.{changeOf, classAnswer, ruleAnswer}
 use Rattle.limit.specs.Views.{chargesAt, settledAt}
 use Rattle.programs.specs.Programs.{programsAnswer}
 use Rattle.freeze.specs.Freeze.{allFrozen}
-use Rattle.judge.specs.Judge.{judged, regionAfter}
+use Rattle.judge.specs.Judge.{callOf as judge-callOf, judged, regionAfter}
 use Rattle.judge.specs.Views.{amountFrom, amountsOf as judge-amountsOf}
 use Rattle.judge.specs.declared.amounts.Sums.{Sums}
-use Rattle.frame.specs.Frame.{callOf, noTally, openingOf, partIn, partsToRead, tallied}
+use Rattle.frame.specs.Frame.{callOf as frame-callOf, noTally, openingOf, partIn, partsToRead, tallied}
 use Rattle.frame.specs.declared.Frame.{Frame}
 use Rattle.frame.specs.declared.Opening.{Opening}
 use Rattle.frame.specs.declared.Part.{Part}
@@ -428,7 +428,7 @@ judge-amounts-amounts _ _ _ _ _ _ _ _ _ _ _ _ p q = one-outcome p q
 
 -- judge::call::judge
 pub judge-call-judge : (region before after instructions vault : List ℕ) (slot «lamports_before» «lamports_after» gross : ℕ)
-    → OneOutcome (λ (o : Answer × List ℕ). (o .0 ≡ judged region (record { before = before; after = after; instructions = instructions; vault = vault; slot = slot; lamportsBefore = «lamports_before»; lamportsAfter = «lamports_after»; gross = gross })) × (o .1 ≡ regionAfter region (record { before = before; after = after; instructions = instructions; vault = vault; slot = slot; lamportsBefore = «lamports_before»; lamportsAfter = «lamports_after»; gross = gross })))
+    → OneOutcome (λ (o : Answer × List ℕ). (o .0 ≡ judged region (judge-callOf before after instructions vault slot «lamports_before» «lamports_after» gross)) × (o .1 ≡ regionAfter region (judge-callOf before after instructions vault slot «lamports_before» «lamports_after» gross)))
 judge-call-judge _ _ _ _ _ _ _ _ _ _ _ p q = one-outcome (both p) (both q)
 
 -- ---- thimbleford
@@ -440,7 +440,7 @@ thimbleford-thimbleford-create _ _ _ p q = one-outcome p q
 
 -- thimbleford::thimbleford_judge
 pub thimbleford-thimbleford-judge : (region before after instructions vault : List ℕ) (slot «lamports_before» «lamports_after» gross : ℕ)
-    → OneOutcome (λ (o : ℕ × List ℕ). (o .0 ≡ judged region (record { before = before; after = after; instructions = instructions; vault = vault; slot = slot; lamportsBefore = «lamports_before»; lamportsAfter = «lamports_after»; gross = gross }) .number) × (o .1 ≡ regionAfter region (record { before = before; after = after; instructions = instructions; vault = vault; slot = slot; lamportsBefore = «lamports_before»; lamportsAfter = «lamports_after»; gross = gross })))
+    → OneOutcome (λ (o : ℕ × List ℕ). (o .0 ≡ judged region (judge-callOf before after instructions vault slot «lamports_before» «lamports_after» gross) .number) × (o .1 ≡ regionAfter region (judge-callOf before after instructions vault slot «lamports_before» «lamports_after» gross)))
 thimbleford-thimbleford-judge _ _ _ _ _ _ _ _ _ _ _ p q = one-outcome (both p) (both q)
 
 -- ---- frame
@@ -467,7 +467,7 @@ frame-parts-to-read _ _ _ p q = one-outcome p q
 
 -- frame::read_call
 pub frame-read-call : (bytes : List ℕ)
-    → OneOutcome (λ (r : Frame). r ≡ callOf bytes)
+    → OneOutcome (λ (r : Frame). r ≡ frame-callOf bytes)
 frame-read-call _ _ _ p q = one-outcome p q
 
 -- frame::Tally::none
