@@ -3,7 +3,6 @@ pub mod Cuts
 pub mod Cutting
 pub mod Gluing
 pub mod InRow
-pub mod Listing
 pub mod Parsing
 pub mod Table
 pub mod Views

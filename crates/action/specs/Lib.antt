@@ -1,4 +1,3 @@
 pub mod Region
 pub mod Fields
 pub mod Views
-pub mod Mints

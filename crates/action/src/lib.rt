@@ -1,7 +1,6 @@
 // The action region: reading headers, cutting, the fields of an action's data, and the listed mints.
 // Any bytes get an answer.
 pub mod fields;
-pub mod mints;
 pub mod parse;
 pub mod row;
 

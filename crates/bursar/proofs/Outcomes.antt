@@ -17,7 +17,7 @@ use Rattle.key.specs.Key.{isAmong, keyFrom, keysIn, keysOf, mostKeys, sameBytes
 use Rattle.key.specs.declared.Key.{Key}
 use Rattle.key.specs.declared.Keys.{Keys}
 use Rattle.action.specs.Fields.{amountsOf as action-amountsOf, changed, changedAmounts, isRecurring, isToken, keyOf, lastReset, limit as limitOf, maximum as maximumOf, remaining as remainingOf, spent as spentOf, window as windowOf}
-use Rattle.action.specs.Mints.{listedMints}
+use Rattle.mints.specs.Mints.{listedMints}
 use Rattle.action.specs.Region.{cut, dataLength, expired, mostActions}
 use Rattle.action.specs.Views.{actionAt, actionsIn, dataAt, headerAnswer, headerAt, kindsIn, parsedOf, viewsOf as action-viewsOf, writtenAt, zeroView as action-zeroView}
 use Rattle.action.specs.declared.ActionView.{ActionView}

@@ -19,13 +19,13 @@ use Rattle.key.specs.declared.Keys.{Keys}
 use Rattle.key.specs.Key.{isAmong, keysIn}
 use Rattle.action.specs.declared.Parsed.{Parsed}
 use Rattle.action.specs.Region.{Action, cut, glue, mostActions}
-use Rattle.action.specs.Mints.{isListed, listedMints}
+use Rattle.mints.specs.Mints.{isListed, listedMints}
 use Rattle.action.specs.declared.ActionView.{ActionView}
 use Rattle.creation.specs.Creation.{inStoredForm, storedAnswer, storedActions}
 use Rattle.action.specs.Views.{placed as placedAt, viewsOf, actionsIn, parsedOf}
 use Rattle.action.proofs.Cuts.{cut-cuts, cut-at-most, rowIn, views-of-parsed, actions-of-parsed}
 use Rattle.creation.proofs.Forms.{stored-by-answer}
-use Rattle.creation.proofs.Listing.{listed-mints-hold}
+use Rattle.mints.proofs.Held.{listed-mints-hold}
 use Rattle.creation.proofs.Theorems.{stored-is-formed, stored-is-glued}
 use Rattle.compact.specs.declared.Entry.{Entry}
 use Rattle.compact.specs.declared.Parsed.{Parsed as ReadList}

@@ -17,7 +17,7 @@ use Rattle.number.specs.Number.{Bytes}
 use Rattle.action.specs.declared.Change.{Change}
 use Rattle.action.specs.Region.{Action, glue, solLimit, solRecurringLimit, solMaxPerTx, tokenLimit, tokenRecurringLimit, tokenMaxPerTx}
 use Rattle.action.specs.Fields.{changed}
-use Rattle.action.specs.Mints.{isListed}
+use Rattle.mints.specs.Mints.{isListed}
 use Rattle.creation.specs.Creation.{howOften, kindsOf, storedActions}
 use Rattle.action.proofs.Changing.{bytes-glued}
 use Rattle.creation.proofs.Theorems.{stored-is-formed, stored-is-regular, glued-is-stored, formed-changed, regular-changed}

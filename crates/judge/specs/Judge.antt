@@ -13,7 +13,7 @@ use Rattle.number.specs.Number.{flooredDifference}
 use Rattle.key.specs.Key.{keyLength}
 use Rattle.action.specs.Region.{Action, glue, solMaxPerTx}
 use Rattle.action.specs.Fields.{isToken, keyOf}
-use Rattle.action.specs.Mints.{isListed}
+use Rattle.mints.specs.Mints.{isListed}
 use Rattle.creation.specs.Creation.{storedActions}
 use Rattle.compact.specs.Compact.{Instruction, Read, decode}
 use Rattle.account.specs.Table.{Record, cutTable, recordsOf}

@@ -11,7 +11,7 @@ use Rattle.key.specs.declared.Keys.{Keys}
 use Rattle.key.specs.Key.{isAmong, keysIn}
 use Rattle.action.specs.Region.{Action, mostActions, solMaxPerTx}
 use Rattle.action.specs.Fields.{isToken, keyOf}
-use Rattle.action.specs.Mints.{listedMints}
+use Rattle.mints.specs.Mints.{listedMints}
 use Rattle.account.specs.Table.{Record}
 use Rattle.token.specs.Tokens.{balance}
 use Rattle.limit.specs.Limit.{Charge, classAnswer}

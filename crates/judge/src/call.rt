@@ -2,7 +2,6 @@
 use crate::amounts::amounts;
 use account::fields::places_in;
 use account::parse::cut_places;
-use action::mints::listed_mints;
 use action::parse::parse_actions;
 use action::row::actions_in;
 use action::row::how_many;
@@ -18,6 +17,7 @@ use key::KEY_LENGTH;
 use key::Keys;
 use limit::class_answer;
 use limit::settle;
+use mints::listed_mints;
 use number::floored_difference;
 use programs::evaluate_pre_actions;
 ghost use mathlib.Core.Path.{_≡_};

@@ -10,7 +10,7 @@ use Rattle.answer.specs.declared.Answer.{Answer}
 use Rattle.answer.specs.Numbers.{accepts}
 use Rattle.answer.proofs.Laws.{accepted-is}
 use Rattle.action.specs.Region.{Action}
-use Rattle.action.specs.Mints.{listedMints}
+use Rattle.mints.specs.Mints.{listedMints}
 use Rattle.action.specs.Views.{actionsIn}
 use Rattle.action.proofs.Views.{length-actions}
 use Rattle.account.specs.Views.{recordsIn}

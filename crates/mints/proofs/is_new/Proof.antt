@@ -1,12 +1,12 @@
--- `action::mints::is_new` meets its contract, test by test.
+-- `mints::is_new` meets its contract, test by test.
 -- Assumes nothing.
 use mathlib.Core.Path.{sym, ap, _∙_}
 use mathlib.Core.Bool.{not, and-false}
 use native.Mathlib.Omega.{arith}
 use borrow.Author.Needs.{needs}
 use borrow.Author.Tests.{not-true, not-false, lt-ltb, le-ltb, eq-eqb, ne-eqb}
-use Rattle.action.proofs.mints.is_new.Statement.{statement}
-use Rattle.action.proofs.mints.is_new.Tie as tie
+use Rattle.mints.proofs.is_new.Statement.{statement}
+use Rattle.mints.proofs.is_new.Tie as tie
 
 is-token-requires : tie.Need-is-token-requires
 is-token-requires c κs = search needs

@@ -14,10 +14,10 @@ use Rattle.key.specs.Key.{sameKey, isAmong, keysIn, keysOf, zeroKey, withKey}
 use Rattle.key.proofs.Laws.{among-with-one, with-key-in, with-key-next}
 use Rattle.action.specs.Region.{Action, dataLength, sizeAmong}
 use Rattle.action.specs.Fields.{isToken, keyOf}
-use Rattle.action.specs.Mints.{isListed, withMint, withMints, listedMints}
-use Rattle.action.proofs.Listing.{mint-kept, mint-added, mints-none}
+use Rattle.mints.specs.Mints.{isListed, withMint, withMints, listedMints}
+use Rattle.mints.proofs.Listing.{mint-kept, mint-added, mints-none}
 use Rattle.creation.specs.declared.Rule.the-variants.{Length}
 use Rattle.creation.specs.Creation.{keeps, allKeep}
 
 -- a token action of the length that is listed has a mint of 32 bytes
 token-size : (kind : ℕ) → isToken kind ≡ true → 32 ≤ dataLength kind

@@ -1,9 +1,9 @@
 // The mints that a region's token actions list.
-use crate::ActionView;
-use crate::fields::is_token;
-use crate::fields::key_of;
-use crate::row::action_in;
-use crate::row::how_many;
+use action::ActionView;
+use action::fields::is_token;
+use action::fields::key_of;
+use action::row::action_in;
+use action::row::how_many;
 use key::KEY_LENGTH;
 use key::Key;
 use key::Keys;
@@ -13,9 +13,9 @@ ghost use mathlib.Core.Bool.{not, _&&_};
 ghost use lib.Dec.{eqb, ltb};
 ghost use lib.ListN.{length};
 ghost use Rattle.key.specs.Key.{sameKey, keyLength, mostKeys};
 ghost use Rattle.action.specs.Fields.{isToken};
-ghost use Rattle.action.specs.Mints.{listedMints};
+ghost use Rattle.mints.specs.Mints.{listedMints};
 ghost use Rattle.action.specs.Views.{actionsIn};
 
 // Whether an action's mint is put into a list of `count` keys, where a search for it ended at `k`.
 fn is_new(view: ActionView, mint: &[u8], k: Key, count: usize) -> bool

@@ -1,4 +1,4 @@
--- `action::mints::listed_mints` meets its contract. The loop's invariant: the list with the mints of the actions from `i` on is that of all.
+-- `mints::listed_mints` meets its contract. The loop's invariant: the list with the mints of the actions from `i` on is that of all.
 -- The inner loop's: how far the list is searched for the action's mint.
 -- Assumes nothing.
 use Prim.Native.Nat.{_+_, _-_, _<_, _≤_}
@@ -14,11 +14,11 @@ use Rattle.key.specs.declared.Key.{Key}
 use Rattle.key.specs.declared.Keys.{Keys}
 use Rattle.key.specs.Key.{sameKey, isAmong, keysIn}
 use Rattle.key.proofs.Searching.{Searched, search-starts, search-room, search-next, search-ended}
-use Rattle.action.specs.Mints.{withMint, withMints, listedMints}
+use Rattle.mints.specs.Mints.{withMint, withMints, listedMints}
 use Rattle.action.specs.Views.{viewsOf, actionAt, actionsIn}
-use Rattle.action.proofs.Listing.{Filled, none-filled, filled-next, mint-new, mint-room, mint-same, mints-step, mints-end, mints-none}
-use Rattle.action.proofs.mints.listed_mints.Statement.{statement}
-use Rattle.action.proofs.mints.listed_mints.Tie as tie
+use Rattle.mints.proofs.Listing.{Filled, none-filled, filled-next, mint-new, mint-room, mint-same, mints-step, mints-end, mints-none}
+use Rattle.mints.proofs.listed_mints.Statement.{statement}
+use Rattle.mints.proofs.listed_mints.Tie as tie
 
 abbrev Inv-loop2 : tie.InvT-loop2
 Inv-loop2 region actions n mints i view mint count at₀ k₀ at k = Searched mints mint count at k
