@@ -22,9 +22,10 @@ use Rattle.action.specs.Region.{Action}
 use Rattle.action.specs.Fields.{isToken, keyOf}
 use Rattle.action.specs.Views.{viewsOf, zeroView, actionAt, actionsIn}
 use Rattle.account.specs.Table.{Record}
-use Rattle.token.specs.Tokens.{balance}
+use Rattle.token.specs.declared.Sums.{Sums}
+use Rattle.token.specs.Tokens.{balance, sumsOf}
 use Rattle.judge.specs.Judge.{decrease}
-use Rattle.judge.specs.Views.{decreaseOf, solAmount, amountFrom, amountsOf}
+use Rattle.judge.specs.Views.{decreaseOf, solAmount, amountFrom}
 
 -- ---- one action
 
@@ -77,8 +78,8 @@ module _ {A : Type 0} (f : A → ℕ) (l : List A) (i : ℕ) where
       let this : getD all i (f d) ≡ x = List·getD-map f l i d ∙ sym e in
       rw (one-less, take-suc all i (f d) inside, this, append-snoc) (set-at (take i all) 0 (replicate (16 - suc i) 0) x i place)
 
-  pub all-laid : i ≡ min (length l) 16 → record { list = laid f l i } ≡ amountsOf (map f l)
-  unfolding amountsOf
+  pub all-laid : i ≡ min (length l) 16 → record { list = laid f l i } ≡ sumsOf (map f l)
+  unfolding sumsOf
   all-laid e =
       let all = map f l in
       let size : length all ≡ length l = simp length-map in
@@ -91,13 +92,24 @@ module _ {A : Type 0} (f : A → ℕ) (l : List A) (i : ℕ) where
       rw (front, rest)
 
 -- each of them is that one's
-pub amount-at : {A : Type 0} (f : A → ℕ) (l : List A) (i : ℕ) (d : A) → i < length l → i < 16 → getD (amountsOf (map f l) .list) i 0 ≡ f (getD l i d)
-unfolding amountsOf
+pub amount-at : {A : Type 0} (f : A → ℕ) (l : List A) (i : ℕ) (d : A) → i < length l → i < 16 → getD (sumsOf (map f l) .list) i 0 ≡ f (getD l i d)
+unfolding sumsOf
 amount-at f l i d h room =
     let all = map f l in
     let there : i < length all = simp length-map h in
     let inside : i < length (take 16 all) = simp (length-take, length-map) (omega arith) in
     List·getD-append (take 16 all) (replicate (16 - length all) 0) 0 i inside ∙ getD-take 16 all i 0 room ∙ getD-any all i 0 (f d) there ∙ List·getD-map f l i d
+
+-- the balances of some mints
+abbrev pub balancesOf : List ℕ → List Record → List (List ℕ) → Sums
+balancesOf vault l ks = sumsOf (map (λ (m : List ℕ). balance vault m l) ks)
+
+-- the difference of a mint's two balances is its decrease
+pub decrease-at : (vault : List ℕ) (before after : List Record) (ks : List (List ℕ)) (i : ℕ) (had has : Sums) → i < length ks → i < 16
+    → had ≡ balancesOf vault before ks → has ≡ balancesOf vault after ks
+    → flooredDifference (getD (had .list) i 0) (getD (has .list) i 0) ≡ decreaseOf vault before after (getD ks i [])
+decrease-at vault before after ks i had has h room p q =
+    mint-decreased vault before after _ _ _ (rw p (amount-at _ ks i [] h room)) (rw q (amount-at _ ks i [] h room))
 
 -- the action of a view
 pub action-at : (s row : List ℕ) (i : ℕ) (v : ActionView) → v ≡ getD (viewsOf row) i zeroView → actionAt s v ≡ getD (actionsIn s row) i (actionAt s zeroView)
@@ -106,7 +118,7 @@ action-at s row i v here = ap (actionAt s) here ∙ sym (List·getD-map (actionA
 
 -- the amount of a listed mint that a search found is that of the mint
 pub found-decrease : (f : List ℕ → ℕ) {m : Keys} {key : List ℕ} {n at : ℕ} {k : Key} → Searched m key n at k → length (m .list) ≡ 16 → n ≡ min (m .count) 16
-    → (ltb 0 n && sameKey (k .bytes) key) ≡ true → getD (amountsOf (map f (keysIn m)) .list) at 0 ≡ f key
+    → (ltb 0 n && sameKey (k .bytes) key) ≡ true → getD (sumsOf (map f (keysIn m)) .list) at 0 ≡ f key
 found-decrease f {m = m} {key = key} {n = n} {at = at} {k = k} far long all found =
     let (some, same) = and-eq-true-iff (ltb 0 n) _ .0 found in
     let inside : at < n = far .within (ltb-true _ _ some) in

@@ -38,13 +38,14 @@ use Rattle.account.specs.declared.Places.{Places}
 use Rattle.account.specs.Table.{Record, cutTable, recordsOf}
 use Rattle.account.specs.Views.{recordsIn, placesOf}
 use Rattle.account.proofs.Views.{records-of-places}
+use Rattle.token.specs.Tokens.{sumsOf}
 use Rattle.limit.specs.Limit.{Charge, classAnswer, settled}
 use Rattle.limit.specs.Views.{charges, chargesAt, settledViews, settledAt}
 use Rattle.limit.proofs.Settling.{settle-glued}
 use Rattle.freeze.specs.Freeze.{allFrozen}
 use Rattle.programs.specs.Programs.{programsAnswer}
 use Rattle.judge.specs.Judge.{Call, answerOf, recordsBefore, recordsAfter, programsOf, readAnswer, actionsOf, decrease, amountFor, charged, soundness, rules, steps, judged, regionAfter}
-use Rattle.judge.specs.Views.{decreaseOf, solAmount, amountFrom, amountsOf, frozenFrom, checksFrom, limitsFrom, rulesFrom}
+use Rattle.judge.specs.Views.{decreaseOf, solAmount, amountFrom, frozenFrom, checksFrom, limitsFrom, rulesFrom}
 use Rattle.freeze.proofs.Freezing.{frozen-alike}
 
 -- ---- steps 5 to 8, from what was cut
@@ -203,14 +204,14 @@ charges-map f (a ∷ l) ys = ap (λ (cs : List Charge). record { act = a; amount
 
 -- the amounts that the code has for some actions, from the records before and after
 abbrev pub amountsFrom : Call → List Record → List Record → ℕ → List Action → List ℕ
-amountsFrom call before after sol l = amountsOf (map (amountFrom (call .vault) before after sol (call .gross)) l) .list
+amountsFrom call before after sol l = sumsOf (map (amountFrom (call .vault) before after sol (call .gross)) l) .list
 
 abbrev amountsFor : Call → List Action → List ℕ
 amountsFor call l = amountsFrom call (recordsBefore call) (recordsAfter call) (decrease (call .lamportsBefore) (call .lamportsAfter)) l
 
 -- those of at most sixteen actions are there
 amounts-there : (call : Call) (l : List Action) → length l ≤ 16 → amountsFor call l ≡ map (amountFor call) l ++ replicate (16 - length l) 0
-unfolding amountsOf amountFor amountFrom decreaseOf solAmount
+unfolding sumsOf amountFor amountFrom decreaseOf solAmount
 amounts-there call l few =
     let all = map (amountFor call) l in
     let size : length all ≡ length l = simp length-map in

@@ -1,21 +1,19 @@
 -- The values that the code hands on between steps.
 -- Assumes nothing.
-use Prim.Native.Nat.{ℕ, _-_}
+use Prim.Native.Nat.{ℕ}
 use mathlib.Core.Bool.{Bool, true, false, not, cond}
-use mathlib.Core.List.{List, [], _∷_, _++_}
+use mathlib.Core.List.{List, [], _∷_}
 use lib.Dec.{eqb}
-use lib.ListN.{length, take, replicate}
 use Rattle.answer.specs.declared.Answer.{Answer}
 use Rattle.answer.specs.Numbers.{answer, accepted, firstRefusal, refuseIf, sessionTokenAuthorityChanged}
 use Rattle.key.specs.declared.Keys.{Keys}
 use Rattle.key.specs.Key.{isAmong, keysIn}
-use Rattle.action.specs.Region.{Action, mostActions, solMaxPerTx}
+use Rattle.action.specs.Region.{Action, solMaxPerTx}
 use Rattle.action.specs.Fields.{isToken, keyOf}
 use Rattle.mints.specs.Mints.{listedMints}
 use Rattle.account.specs.Table.{Record}
 use Rattle.token.specs.Tokens.{balance}
 use Rattle.limit.specs.Limit.{Charge, classAnswer}
-use Rattle.judge.specs.declared.amounts.Sums.{Sums}
 use Rattle.freeze.specs.Freeze.{allFrozen}
 use Rattle.judge.specs.Judge.{decrease}
 use Rattle.programs.specs.Programs.{programsAnswer}
@@ -33,10 +31,6 @@ unfoldable pub amountFrom : List ℕ → List Record → List Record → ℕ →
 unfolding decreaseOf solAmount
 amountFrom vault before after sol gross a =
     cond (isToken (a .kind)) (decreaseOf vault before after (keyOf a)) (solAmount sol gross (a .kind))
-
--- the first sixteen amounts, and zeros past the last
-unfoldable pub amountsOf : List ℕ → Sums
-amountsOf xs = record { list = take mostActions xs ++ replicate (mostActions - length xs) 0 }
 
 -- whether the authorities of the accounts of some mints stay as they were
 unfoldable pub frozenFrom : List ℕ → List Record → List Record → Keys → Bool

@@ -6,10 +6,11 @@ use action::fields::is_token;
 use action::fields::key_of;
 use action::row::action_in;
 use action::row::how_many;
-use key::Key;
 use key::Keys;
 use number::floored_difference;
+use token::Sums;
 use token::balance;
+use token::balances;
 ghost use mathlib.Core.Path.{_≡_};
 ghost use mathlib.Core.Bool.{true};
 ghost use mathlib.Core.List.{map};
@@ -17,15 +18,11 @@ ghost use Prim.Native.Nat.{min};
 ghost use lib.ListN.{length};
 ghost use Rattle.key.specs.Key.{keysIn};
 ghost use Rattle.account.specs.Views.{recordsIn};
+ghost use Rattle.token.specs.Tokens.{sumsOf};
 ghost use Rattle.action.specs.Region.{mostActions};
 ghost use Rattle.action.specs.Fields.{keyOf};
 ghost use Rattle.action.specs.Views.{viewsOf, actionAt, actionsIn};
-ghost use Rattle.judge.specs.Views.{decreaseOf, solAmount, amountFrom, amountsOf};
-
-// At most sixteen amounts, of actions or of mints; zeros past the last.
-pub struct Sums {
-    pub list: [u64; 16],
-}
+ghost use Rattle.judge.specs.Views.{decreaseOf, solAmount, amountFrom};
 
 // How much the vault's balance of a mint went down.
 fn token_decrease(
@@ -43,22 +40,8 @@ fn token_decrease(
     floored_difference(had, has)
 }
 
-fn key_decrease(
-    before: &[u8],
-    before_places: &[usize],
-    after: &[u8],
-    after_places: &[usize],
-    vault: &[u8],
-    key: Key,
-) -> u64
-    ensures { λ r. ⌜ r ≡ decreaseOf (now (vault .entry)) (recordsIn (now (before .entry)) (now («before_places» .entry))) (recordsIn (now (after .entry)) (now («after_places» .entry))) (key .bytes) ⌝ }
-{
-    let mint = key.bytes;
-    token_decrease(before, before_places, after, after_places, vault, &mint)
-}
-
-// How much the balance of each listed mint went down: each is summed once, whatever the number of its
-// limits.
+// How much the balance of each listed mint went down: each table is walked once, whatever the number of
+// mints and of their limits.
 fn mint_decreases(
     before: &[u8],
     before_places: &[usize],
@@ -67,14 +50,15 @@ fn mint_decreases(
     vault: &[u8],
     mints: Keys,
 ) -> Sums
-    ensures { λ r. ⌜ r ≡ amountsOf (map (decreaseOf (now (vault .entry)) (recordsIn (now (before .entry)) (now («before_places» .entry))) (recordsIn (now (after .entry)) (now («after_places» .entry)))) (keysIn mints)) ⌝ }
+    ensures { λ r. ⌜ r ≡ sumsOf (map (decreaseOf (now (vault .entry)) (recordsIn (now (before .entry)) (now («before_places» .entry))) (recordsIn (now (after .entry)) (now («after_places» .entry)))) (keysIn mints)) ⌝ }
 {
+    let had = balances(before, before_places, vault, mints);
+    let has = balances(after, after_places, vault, mints);
     let n = key::counted(mints.count);
     let mut list = [0u64; MAX_ACTIONS];
     let mut i = 0;
     while i < n {
-        let k = mints.list[i];
-        let decrease = key_decrease(before, before_places, after, after_places, vault, k);
+        let decrease = floored_difference(had.list[i], has.list[i]);
         list[i] = decrease;
         i += 1;
     }
@@ -143,7 +127,7 @@ pub fn amounts(
     gross: u64,
     mints: Keys,
 ) -> Sums
-    ensures { λ r. ⌜ r ≡ amountsOf (map (amountFrom (now (vault .entry)) (recordsIn (now (before .entry)) (now («before_places» .entry))) (recordsIn (now (after .entry)) (now («after_places» .entry))) sol gross) (actionsIn (now (region .entry)) (now (actions .entry)))) ⌝ }
+    ensures { λ r. ⌜ r ≡ sumsOf (map (amountFrom (now (vault .entry)) (recordsIn (now (before .entry)) (now («before_places» .entry))) (recordsIn (now (after .entry)) (now («after_places» .entry))) sol gross) (actionsIn (now (region .entry)) (now (actions .entry)))) ⌝ }
 {
     let decreases = mint_decreases(before, before_places, after, after_places, vault, mints);
     let count = key::counted(mints.count);

@@ -27,10 +27,11 @@ ghost use lib.ListN.{length};
 ghost use Rattle.answer.specs.Numbers.{accepts};
 ghost use Rattle.account.specs.Table.{cutTable, recordsOf};
 ghost use Rattle.account.specs.Views.{recordsIn};
+ghost use Rattle.token.specs.Tokens.{sumsOf};
 ghost use Rattle.action.specs.Views.{actionsIn};
 ghost use Rattle.limit.specs.Views.{chargesAt, settledAt};
 ghost use Rattle.judge.specs.Judge.{callOf, answerOf, judged, regionAfter};
-ghost use Rattle.judge.specs.Views.{amountFrom, amountsOf, checksFrom, limitsFrom, rulesFrom};
+ghost use Rattle.judge.specs.Views.{amountFrom, checksFrom, limitsFrom, rulesFrom};
 
 // Steps 5 and 6: the programs and the freeze.
 fn checks_answer(
@@ -89,7 +90,7 @@ fn judge_cut(
     sol: u64,
     gross: u64,
 ) -> Answer
-    ensures { λ r. ⌜ (r ≡ rulesFrom slot (now (vault .entry)) (recordsIn (now (before .entry)) (now («before_places» .entry))) (recordsIn (now (after .entry)) (now («after_places» .entry))) (now (programs .entry)) (chargesAt (now (region .entry)) (now (actions .entry)) (amountsOf (map (amountFrom (now (vault .entry)) (recordsIn (now (before .entry)) (now («before_places» .entry))) (recordsIn (now (after .entry)) (now («after_places» .entry))) sol gross) (actionsIn (now (region .entry)) (now (actions .entry)))) .list)) (actionsIn (now (region .entry)) (now (actions .entry)))) × (now (region .exit) ≡ cond (accepts r) (settledAt slot (now (actions .entry)) (amountsOf (map (amountFrom (now (vault .entry)) (recordsIn (now (before .entry)) (now («before_places» .entry))) (recordsIn (now (after .entry)) (now («after_places» .entry))) sol gross) (actionsIn (now (region .entry)) (now (actions .entry)))) .list) (now (region .entry))) (now (region .entry))) ⌝ }
+    ensures { λ r. ⌜ (r ≡ rulesFrom slot (now (vault .entry)) (recordsIn (now (before .entry)) (now («before_places» .entry))) (recordsIn (now (after .entry)) (now («after_places» .entry))) (now (programs .entry)) (chargesAt (now (region .entry)) (now (actions .entry)) (sumsOf (map (amountFrom (now (vault .entry)) (recordsIn (now (before .entry)) (now («before_places» .entry))) (recordsIn (now (after .entry)) (now («after_places» .entry))) sol gross) (actionsIn (now (region .entry)) (now (actions .entry)))) .list)) (actionsIn (now (region .entry)) (now (actions .entry)))) × (now (region .exit) ≡ cond (accepts r) (settledAt slot (now (actions .entry)) (sumsOf (map (amountFrom (now (vault .entry)) (recordsIn (now (before .entry)) (now («before_places» .entry))) (recordsIn (now (after .entry)) (now («after_places» .entry))) sol gross) (actionsIn (now (region .entry)) (now (actions .entry)))) .list) (now (region .entry))) (now (region .entry))) ⌝ }
 {
     if how_many(actions) == 0 {
         return Answer::of(ACCEPTED);

@@ -1,2 +1,3 @@
-pub mod Balances
+pub mod Counting
 pub mod Theorems
+pub mod Totals

@@ -9,7 +9,7 @@ use lib.ListN.{length}
 use Rattle.number.specs.Number.{cappedSum, highest}
 use Rattle.account.specs.Table.{Record}
 use Rattle.token.specs.Tokens.{isTokenAccount, isCounted, share, holdings, balance, tokenAccountLength}
-use Rattle.token.proofs.Balances.{token-account-long, holdings-append}
+use Rattle.token.proofs.Counting.{token-account-long, holdings-append}
 
 -- a token account has at least 165 bytes of data
 pub a-token-account-has-165-bytes : (r : Record) → isTokenAccount r ≡ true → tokenAccountLength ≤ length (r .payload)

@@ -7,9 +7,16 @@ use account::RecordView;
 use account::fields::record_owner;
 use account::fields::record_payload;
 use account::fields::view_in;
+use key::Key;
+use key::Keys;
+use key::MAX_KEYS;
 ghost use mathlib.Core.Path.{_≡_};
+ghost use mathlib.Core.Bool.{cond};
+ghost use mathlib.Core.List.{List, map};
+ghost use Prim.Native.Nat.{ℕ};
+ghost use Rattle.key.specs.Key.{sameKey, keysIn};
 ghost use Rattle.number.specs.Number.{cappedSum};
-ghost use Rattle.token.specs.Tokens.{isTokenAccount, mintOf, isCounted, share, balance as balanceOf};
+ghost use Rattle.token.specs.Tokens.{isTokenAccount, mintOf, amountOf, isCounted, share, balance as balanceOf, sumsOf};
 ghost use Rattle.account.specs.Views.{recordAt, recordsIn};
 
 const TOKEN_ACCOUNT_MIN_SIZE: usize = 165;
@@ -17,6 +24,11 @@ const TOKEN_ACCOUNT_MIN_SIZE: usize = 165;
 const TOKEN_OWNER_OFFSET: usize = 32;
 
 const TOKEN_AMOUNT_OFFSET: usize = 64;
+
+// At most sixteen sums, of mints or of actions; zeros past the last.
+pub struct Sums {
+    pub list: [u64; 16],
+}
 
 // Whether a record is a token account. Whoever counts or freezes records asks here; the length is
 // tested first because it is the cheaper test.
@@ -56,6 +68,13 @@ pub fn is_counted(table: &[u8], view: RecordView, vault: &[u8]) -> bool
     key::same_key(&payload[TOKEN_OWNER_OFFSET..TOKEN_AMOUNT_OFFSET], vault)
 }
 
+// The amount of a token account.
+fn amount_of(table: &[u8], view: RecordView) -> u64
+    ensures { λ r. ⌜ r ≡ amountOf (recordAt (now (table .entry)) view) ⌝ }
+{
+    number::read_u64(record_payload(table, view), TOKEN_AMOUNT_OFFSET)
+}
+
 // A total and what a record adds to it. Most records have another mint, so that is tested first.
 fn added(total: u64, table: &[u8], view: RecordView, vault: &[u8], mint: &[u8]) -> u64
     ensures { λ r. ⌜ r ≡ cappedSum total (share (now (vault .entry)) (now (mint .entry)) (recordAt (now (table .entry)) view)) ⌝ }
@@ -66,8 +85,7 @@ fn added(total: u64, table: &[u8], view: RecordView, vault: &[u8], mint: &[u8]) 
     if !is_counted(table, view, vault) {
         return total;
     }
-    let amount = number::read_u64(record_payload(table, view), TOKEN_AMOUNT_OFFSET);
-    number::capped_sum(total, amount)
+    number::capped_sum(total, amount_of(table, view))
 }
 
 // A mint's balance over the records of a row, from the last to the first as the sum is defined. The
@@ -83,4 +101,47 @@ pub fn balance(table: &[u8], places: &[usize], vault: &[u8], mint: &[u8]) -> u64
         total = added(total, table, view, vault, mint);
     }
     total
+}
+
+// To how many of `n` mints' totals a record may add: to none where it is not counted.
+fn turns_for(table: &[u8], view: RecordView, vault: &[u8], n: usize) -> usize
+    ensures { λ r. ⌜ r ≡ cond (isCounted (now (vault .entry)) (recordAt (now (table .entry)) view)) n 0 ⌝ }
+{
+    if is_counted(table, view, vault) { n } else { 0 }
+}
+
+// A mint's total and the amount of a counted account, which is added where the account's mint is that one.
+fn with_amount(total: u64, k: Key, mint: &[u8], amount: u64) -> u64
+    ensures { λ r. ⌜ r ≡ cond (sameKey (now (mint .entry)) (k .bytes)) (cappedSum total amount) total ⌝ }
+{
+    let bytes = k.bytes;
+    if !key::same_key(mint, &bytes) {
+        return total;
+    }
+    number::capped_sum(total, amount)
+}
+
+// The balance of each listed mint, in one walk over the records: whether a record is counted is asked
+// once, whatever the number of mints.
+pub fn balances(table: &[u8], places: &[usize], vault: &[u8], mints: Keys) -> Sums
+    ensures { λ r. ⌜ r ≡ sumsOf (map (λ (m : List ℕ). balanceOf (now (vault .entry)) m (recordsIn (now (table .entry)) (now (places .entry)))) (keysIn mints)) ⌝ }
+{
+    let n = key::counted(mints.count);
+    let mut list = [0u64; MAX_KEYS];
+    let mut at = places.len() / 2;
+    while 0 < at {
+        at -= 1;
+        let view = view_in(places, at);
+        let turns = turns_for(table, view, vault, n);
+        let mint = mint_of(table, view);
+        let amount = amount_of(table, view);
+        let mut j = 0;
+        while j < turns {
+            let k = mints.list[j];
+            let total = with_amount(list[j], k, mint, amount);
+            list[j] = total;
+            j += 1;
+        }
+    }
+    Sums { list }
 }

@@ -4,7 +4,7 @@ use mathlib.Core.Path.{sym, _∙_}
 use native.Mathlib.Omega.{arith}
 use borrow.Author.Tests.{not-true, not-false}
 use Rattle.account.specs.Views.{recordAt}
-use Rattle.token.proofs.Balances.{stays-other-mint, stays-not-counted, grows-counted}
+use Rattle.token.proofs.Counting.{stays-other-mint, stays-not-counted, grows-counted}
 use borrow.Author.Needs.{needs}
 use Rattle.token.proofs.added.Statement.{statement}
 use Rattle.token.proofs.added.Tie as tie
@@ -31,25 +31,21 @@ returns-2 c =
     let r = recordAt (start .table .now) (start .view) in
     sym (stays-not-counted r _ (start .mint .now) (start .total) (omega arith) (sym (c .before .is-counted .ensures) ∙ not-true _ (c .if2 .taken)))
 
-record-payload-requires : tie.Need-record-payload-requires
-record-payload-requires c κs = search needs
-
-read-u64-requires : tie.Need-read-u64-requires
-read-u64-requires c κs = search needs
+amount-of-requires : tie.Need-amount-of-requires
+amount-of-requires c κs = search needs
 
 capped-sum-requires : tie.Need-capped-sum-requires
 capped-sum-requires c κs = search needs
 
 returns-3 : tie.Need-returns-3
 returns-3 c =
-    let counted = c .before .before .before .before in
+    let counted = c .before .before .before in
     let tested = counted .before .before in
     let start = tested .before .before .before .before .before .args in
     let r = recordAt (start .table .now) (start .view) in
     let mint = rw (tested .before .mint-of .ensures) at (sym (tested .same-key .ensures) ∙ not-false _ (counted .before .if1 .left)) in
     c .capped-sum .ensures
-    ∙ rw (c .before .read-u64 .ensures, c .before .before .record-payload .ensures)
-    (sym (grows-counted r _ _ (start .total) (sym (counted .is-counted .ensures) ∙ not-false _ (c .before .before .before .if2 .left)) mint))
+    ∙ rw (c .before .amount-of .ensures) (sym (grows-counted r _ _ (start .total) (sym (counted .is-counted .ensures) ∙ not-false _ (c .before .before .if2 .left)) mint))
 
 pub added-spec : {M : Type 1} → statement M
 added-spec =
@@ -60,7 +56,6 @@ added-spec =
     returns
     is-counted-requires
     returns-2
-    record-payload-requires
-    read-u64-requires
+    amount-of-requires
     capped-sum-requires
     returns-3)

@@ -6,7 +6,7 @@ use native.Mathlib.Omega.{arith}
 use lib.ListN.{length, drop}
 use Rattle.token.specs.Tokens.{balance}
 use Rattle.account.specs.Views.{recordsIn}
-use Rattle.token.proofs.Balances.{balance-none, balance-before}
+use Rattle.token.proofs.Counting.{balance-none, balance-before}
 use Rattle.account.proofs.Views.{length-records}
 use Rattle.token.proofs.balance.Statement.{statement}
 use Rattle.token.proofs.balance.Tie as tie

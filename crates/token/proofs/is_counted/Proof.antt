@@ -6,7 +6,7 @@ use native.Mathlib.Omega.{arith}
 use borrow.Author.Tests.{not-true, not-false}
 use lib.ListN.{length}
 use Rattle.account.specs.Views.{recordAt}
-use Rattle.token.proofs.Balances.{token-account-long, no-account-not-counted, account-counted}
+use Rattle.token.proofs.Counting.{token-account-long, no-account-not-counted, account-counted}
 use borrow.Author.Needs.{needs}
 use Rattle.token.proofs.is_counted.Statement.{statement}
 use Rattle.token.proofs.is_counted.Tie as tie

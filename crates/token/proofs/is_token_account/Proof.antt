@@ -5,7 +5,7 @@ use Prim.Native.Nat.{_<_, _≤_}
 use native.Mathlib.Omega.{arith}
 use lib.ListN.{length}
 use Rattle.account.specs.Views.{recordAt}
-use Rattle.token.proofs.Balances.{no-token-account, spl-account, not-spl-account}
+use Rattle.token.proofs.Counting.{no-token-account, spl-account, not-spl-account}
 use borrow.Author.Needs.{needs}
 use Rattle.token.proofs.is_token_account.Statement.{statement}
 use Rattle.token.proofs.is_token_account.Tie as tie

@@ -1,7 +1,7 @@
 -- Laws of token accounts and balances, as the code goes: test by test, and from the last record to the first.
 -- Assumes nothing.
-use mathlib.Core.Path.{_≡_}
-use mathlib.Core.Bool.{true, false, _||_, and-true, and-false, and-eq-true-iff}
+use mathlib.Core.Path.{_≡_, refl, sym}
+use mathlib.Core.Bool.{Bool, true, false, cond, _||_, and-true, and-false, and-eq-true-iff}
 use mathlib.Core.List.{List, [], _∷_, _++_}
 use Prim.Native.Nat.{ℕ, suc, _+_, _-_, _/_, _^_, _<_, _≤_}
 use native.Mathlib.Omega.{arith}
@@ -60,6 +60,13 @@ module _ (r : Record) where
       unfolding share
       grows-counted c m = rw (c, m)
 
+      pub counted-adds : total < 2 ^ 64 → isCounted vault r ≡ true → cond (sameKey (mintOf r) mint) (cappedSum total (amountOf r)) total ≡ cappedSum total (share vault mint r)
+      counted-adds fits c = go (sameKey (mintOf r) mint) refl
+        where
+          go : (t : Bool) → sameKey (mintOf r) mint ≡ t → cond t (cappedSum total (amountOf r)) total ≡ cappedSum total (share vault mint r)
+          go true e = sym (grows-counted c e)
+          go false e = sym (stays-other-mint fits e)
+
 module _ (vault mint : List ℕ) where
   pub holdings-append : (l m : List Record) → holdings vault mint (l ++ m) ≡ holdings vault mint l + holdings vault mint m
   unfolding holdings
@@ -74,11 +81,20 @@ module _ (vault mint : List ℕ) where
   unfolding balance holdings cappedSum
   balance-cons r l = omega arith
 
-  -- the balance from the record before a place on
+  pub balance-fits : (l : List Record) → balance vault mint l < 2 ^ 64
+  unfolding balance highest
+  balance-fits l = omega arith
+
+  -- the balance from a record on
+  pub balance-step : (s row : List ℕ) (i : ℕ) (d : RecordView) → i < length row / 2
+      → balance vault mint (drop i (recordsIn s row))
+      ≡ cappedSum (balance vault mint (drop (suc i) (recordsIn s row))) (share vault mint (recordAt s (getD (viewsOf row) i d)))
+  balance-step s row i d inside = rw (records-step s row i d inside) (balance-cons _ _)
+
+  -- and from the one before a place on
   pub balance-before : (s row : List ℕ) (i : ℕ) (d : RecordView) → 0 < i → i ≤ length row / 2
       → balance vault mint (drop (i - 1) (recordsIn s row))
       ≡ cappedSum (balance vault mint (drop i (recordsIn s row))) (share vault mint (recordAt s (getD (viewsOf row) (i - 1) d)))
   balance-before s row i d some inside =
       let place : suc (i - 1) ≡ i = omega arith in
-      let step = rw place at (records-step s row (i - 1) d (omega arith)) in
-      rw step (balance-cons _ _)
+      rw place at (balance-step s row (i - 1) d (omega arith))
