@@ -1,14 +1,14 @@
--- `account::indexes::all_below` meets its contract. The loop's invariant: from `i` on all are below where all are from the start.
+-- `lookup::all_below` meets its contract. The loop's invariant: from `i` on all are below where all are from the start.
 -- Assumes nothing.
 use Prim.Native.Nat.{_-_, _≤_}
 use mathlib.Core.Path.{_≡_, refl, sym, _∙_}
 use native.Mathlib.Numerals.{add-one}
 use native.Mathlib.Omega.{arith}
 use lib.ListN.{length, drop}
-use Rattle.account.specs.Indexes.{allBelow}
-use Rattle.account.proofs.Lookups.{below-found, below-passed, below-end}
-use Rattle.account.proofs.indexes.all_below.Statement.{statement}
-use Rattle.account.proofs.indexes.all_below.Tie as tie
+use Rattle.lookup.specs.Indexes.{allBelow}
+use Rattle.lookup.proofs.Lookups.{below-found, below-passed, below-end}
+use Rattle.lookup.proofs.all_below.Statement.{statement}
+use Rattle.lookup.proofs.all_below.Tie as tie
 
 abbrev Inv-loop : tie.InvT-loop
 Inv-loop indexes count i₀ i = (i ≤ length indexes) × (allBelow count (drop i indexes) ≡ allBelow count indexes)

@@ -1,16 +1,16 @@
--- `account::indexes::key_at` meets its contract: past the test the view is one of the row's.
+-- `lookup::key_at` meets its contract: past the test the view is one of the row's.
 -- Assumes nothing.
 use mathlib.Core.Path.{sym, ap, _∙_}
 use Prim.Native.Nat.{_≤_}
 use native.Mathlib.Omega.{arith}
 use lib.ListN.{length}
 use Rattle.account.specs.declared.RecordView.{RecordView}
 use Rattle.account.specs.Views.{recordAt, recordsIn}
 use Rattle.account.proofs.Views.{length-records}
-use Rattle.account.proofs.Lookups.{key-past, key-there}
+use Rattle.lookup.proofs.Lookups.{key-past, key-there}
 use borrow.Author.Needs.{needs}
-use Rattle.account.proofs.indexes.key_at.Statement.{statement}
-use Rattle.account.proofs.indexes.key_at.Tie as tie
+use Rattle.lookup.proofs.key_at.Statement.{statement}
+use Rattle.lookup.proofs.key_at.Tie as tie
 
 slice-aggregate-result : tie.Need-slice-aggregate-result
 slice-aggregate-result c = search needs

@@ -1,10 +1,10 @@
--- `account::indexes::lookup` meets its contract: the places of a cut table name its records.
+-- `lookup::lookup` meets its contract: the places of a cut table name its records.
 -- Assumes nothing.
 use mathlib.Core.Path.{_∙_}
-use Rattle.account.proofs.Lookups.{key-of-table}
+use Rattle.lookup.proofs.Lookups.{key-of-table}
 use borrow.Author.Needs.{needs}
-use Rattle.account.proofs.indexes.lookup.Statement.{statement}
-use Rattle.account.proofs.indexes.lookup.Tie as tie
+use Rattle.lookup.proofs.lookup.Statement.{statement}
+use Rattle.lookup.proofs.lookup.Tie as tie
 
 cut-places-requires : tie.Need-cut-places-requires
 cut-places-requires c κs = search needs

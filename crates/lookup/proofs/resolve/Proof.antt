@@ -1,12 +1,12 @@
--- `account::indexes::resolve` meets its contract: a cut table's answer and count are those of the definition, and so is the test of the entry.
+-- `lookup::resolve` meets its contract: a cut table's answer and count are those of the definition, and so is the test of the entry.
 -- Assumes nothing.
 use mathlib.Core.Path.{sym, _∙_}
 use mathlib.Core.Bool.{true, false}
 use borrow.Author.Tests.{not-true, not-false}
 use borrow.Author.Needs.{needs}
-use Rattle.account.proofs.Lookups.{resolve-malformed, resolve-sound}
-use Rattle.account.proofs.indexes.resolve.Statement.{statement}
-use Rattle.account.proofs.indexes.resolve.Tie as tie
+use Rattle.lookup.proofs.Lookups.{resolve-malformed, resolve-sound}
+use Rattle.lookup.proofs.resolve.Statement.{statement}
+use Rattle.lookup.proofs.resolve.Tie as tie
 
 cut-places-requires : tie.Need-cut-places-requires
 cut-places-requires c κs = search needs

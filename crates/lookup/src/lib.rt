@@ -1,13 +1,13 @@
 // Indexes into a table: the key at one, and resolving those of an instruction.
-use crate::fields;
-use crate::parse;
+use account::fields;
+use account::parse;
 use answer::ACCEPTED;
 use answer::Answer;
 use answer::INVALID_INSTRUCTION_DATA;
 use compact::Entry;
 ghost use mathlib.Core.Path.{_≡_};
-ghost use Rattle.account.specs.Indexes.{allBelow, resolvable, resolving, keyAmong, keyAt};
 ghost use Rattle.account.specs.Views.{recordsIn};
+ghost use Rattle.lookup.specs.Indexes.{allBelow, resolvable, resolving, keyAmong, keyAt};
 
 // The key of the record at an index of a table's row, or the empty part past the last.
 pub fn key_at<'a>(table: &'a [u8], places: &[usize], index: usize) -> &'a [u8]

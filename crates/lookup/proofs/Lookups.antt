@@ -13,12 +13,12 @@ use Rattle.answer.specs.Numbers.{accepts, refuseIf, invalidInstructionData}
 use Rattle.compact.specs.declared.Range.{Range}
 use Rattle.compact.specs.declared.Entry.{Entry}
 use Rattle.compact.specs.Compact.{within, part}
 use Rattle.account.specs.declared.RecordView.{RecordView}
 use Rattle.account.specs.declared.Places.{Places}
 use Rattle.account.specs.Table.{Record, cutTable}
-use Rattle.account.specs.Indexes.{allBelow, resolvable, resolving, keyAmong, keyAt}
 use Rattle.account.specs.Views.{recordAt, viewsOf, recordsIn, placesOf}
 use Rattle.account.proofs.Views.{records-step, records-of-places, table-malformed, table-sound}
+use Rattle.lookup.specs.Indexes.{allBelow, resolvable, resolving, keyAmong, keyAt}
 
 -- ---- the key at an index
 

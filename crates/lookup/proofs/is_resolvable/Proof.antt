@@ -1,4 +1,4 @@
--- `account::indexes::is_resolvable` meets its contract: each test that refuses is one of the definition's, and past them the accounts' indexes decide.
+-- `lookup::is_resolvable` meets its contract: each test that refuses is one of the definition's, and past them the accounts' indexes decide.
 -- Assumes nothing.
 use mathlib.Core.Path.{sym, _∙_}
 use native.Mathlib.Nat.{add-sub-cancel-left}
@@ -6,9 +6,9 @@ use native.Mathlib.Omega.{arith}
 use borrow.Author.Tests.{not-true, not-false}
 use borrow.Author.Needs.{needs}
 use Rattle.compact.specs.Compact.{part}
-use Rattle.account.proofs.Lookups.{within-ends, accounts-past-the-end, payload-past-the-end, program-past-the-count, accounts-decide}
-use Rattle.account.proofs.indexes.is_resolvable.Statement.{statement}
-use Rattle.account.proofs.indexes.is_resolvable.Tie as tie
+use Rattle.lookup.proofs.Lookups.{within-ends, accounts-past-the-end, payload-past-the-end, program-past-the-count, accounts-decide}
+use Rattle.lookup.proofs.is_resolvable.Statement.{statement}
+use Rattle.lookup.proofs.is_resolvable.Tie as tie
 
 within-requires : tie.Need-within-requires
 within-requires c κs = search needs
