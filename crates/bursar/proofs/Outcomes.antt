@@ -25,13 +25,14 @@ use Rattle.action.specs.declared.Change.{Change}
 use Rattle.action.specs.declared.HeaderRead.{HeaderRead}
 use Rattle.action.specs.declared.Parsed.{Parsed as action-Parsed}
 use Rattle.creation.specs.Creation.{creation, howOften, storedAnswer}
-use Rattle.compact.specs.Compact.{outputAfter, programsOf, reading, within, writing}
+use Rattle.compact.specs.Compact.{programsOf, reading, within}
 use Rattle.compact.specs.declared.Entries.{Entries}
 use Rattle.compact.specs.declared.Entry.{Entry}
 use Rattle.compact.specs.declared.Parsed.{Parsed as compact-Parsed}
 use Rattle.compact.specs.declared.Programs.{Programs}
 use Rattle.compact.specs.declared.Range.{Range}
-use Rattle.compact.specs.declared.Written.{Written}
+use Rattle.encoding.specs.Encoding.{outputAfter, writing}
+use Rattle.encoding.specs.declared.Written.{Written}
 use Rattle.account.specs.Table.{cutTable}
 use Rattle.account.specs.Views.{placesOf, recordAt, recordsIn, viewsOf as account-viewsOf, zeroView as account-zeroView}
 use Rattle.account.specs.declared.Places.{Places}
@@ -309,10 +310,12 @@ pub compact-within : (source : List ℕ) (range : Range)
     → OneOutcome (λ (r : Bool). r ≡ within source range)
 compact-within _ _ _ _ p q = one-outcome p q
 
--- compact::serialize_compact_instructions
-pub compact-serialize-compact-instructions : (entries : Entries) (source out : List ℕ)
+-- ---- encoding
+
+-- encoding::serialize_compact_instructions
+pub encoding-serialize-compact-instructions : (entries : Entries) (source out : List ℕ)
     → OneOutcome (λ (o : Written × List ℕ). (o .0 ≡ writing entries source out) × (o .1 ≡ outputAfter entries source out))
-compact-serialize-compact-instructions _ _ _ _ _ p q = one-outcome (both p) (both q)
+encoding-serialize-compact-instructions _ _ _ _ _ p q = one-outcome (both p) (both q)
 
 -- ---- account
 

@@ -1,13 +1,13 @@
--- `compact::size_of_one` meets its contract: each test that refuses is one of the definition's, and past them the ranges have their lengths.
+-- `encoding::size_of_one` meets its contract: each test that refuses is one of the definition's, and past them the ranges have their lengths.
 -- Assumes nothing.
 use mathlib.Core.Path.{sym, _∙_}
 use native.Mathlib.Omega.{arith}
 use borrow.Author.Tests.{not-true, not-false}
 use borrow.Author.Needs.{needs}
 use Rattle.compact.specs.Compact.{mostAccounts, mostPayload}
-use Rattle.compact.proofs.Writing.{too-many-accounts, payload-too-long, accounts-past-the-end, payload-past-the-end, size-of-entry}
-use Rattle.compact.proofs.size_of_one.Statement.{statement}
-use Rattle.compact.proofs.size_of_one.Tie as tie
+use Rattle.encoding.proofs.Writing.{too-many-accounts, payload-too-long, accounts-past-the-end, payload-past-the-end, size-of-entry}
+use Rattle.encoding.proofs.size_of_one.Statement.{statement}
+use Rattle.encoding.proofs.size_of_one.Tie as tie
 
 returns : tie.Need-returns
 unfolding mostAccounts

@@ -1,4 +1,4 @@
--- `compact::serialize_compact_instructions` meets its contract: the tests are the definition's, in its order, and past them the stores are
+-- `encoding::serialize_compact_instructions` meets its contract: the tests are the definition's, in its order, and past them the stores are
 -- the run that writes the encoding.
 -- Assumes nothing.
 use Prim.Native.Nat.{ℕ, _≤_}
@@ -8,10 +8,11 @@ use native.Mathlib.Omega.{arith}
 use borrow.Author.Needs.{needs}
 use lib.ListN.{length, length-map}
 use Rattle.answer.specs.Numbers.{answer, accepted}
-use Rattle.compact.specs.Compact.{mostInstructions, mostAccounts, encodableEach, encodable, entriesIn, encode, listOf}
-use Rattle.compact.proofs.Writing.{length-encode, sized, not-sized, writing-too-many, writing-breaks, writing-keeps, not-encodable, no-room, written, all-stored}
-use Rattle.compact.proofs.serialize_compact_instructions.Statement.{statement}
-use Rattle.compact.proofs.serialize_compact_instructions.Tie as tie
+use Rattle.compact.specs.Compact.{mostInstructions, mostAccounts, entriesIn, encode, listOf}
+use Rattle.encoding.specs.Encoding.{encodableEach, encodable}
+use Rattle.encoding.proofs.Writing.{length-encode, sized, not-sized, writing-too-many, writing-breaks, writing-keeps, not-encodable, no-room, written, all-stored}
+use Rattle.encoding.proofs.serialize_compact_instructions.Statement.{statement}
+use Rattle.encoding.proofs.serialize_compact_instructions.Tie as tie
 
 abbrev start-of : tie.After-size → tie.Start
 start-of c = c .before .before .before .before .before .before .before

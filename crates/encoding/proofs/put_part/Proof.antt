@@ -1,4 +1,4 @@
--- `compact::put_part` meets its contract. The loop's invariant: storing what is left of the part from `i` on gives what storing all of it
+-- `encoding::put_part` meets its contract. The loop's invariant: storing what is left of the part from `i` on gives what storing all of it
 -- gives.
 -- Assumes nothing.
 use Prim.Native.Nat.{_+_, _-_, _≤_}
@@ -7,10 +7,10 @@ use native.Mathlib.Nat.{add-zero, sub-zero}
 use native.Mathlib.Omega.{arith}
 use lib.ListN.{length, take, drop, length-set}
 use lib.Seq.{sets}
 use Rattle.compact.specs.Compact.{part}
-use Rattle.compact.proofs.Writing.{part-turn}
-use Rattle.compact.proofs.put_part.Statement.{statement}
-use Rattle.compact.proofs.put_part.Tie as tie
+use Rattle.encoding.proofs.Writing.{part-turn}
+use Rattle.encoding.proofs.put_part.Statement.{statement}
+use Rattle.encoding.proofs.put_part.Tie as tie
 
 abbrev Inv-loop : tie.InvT-loop
 Inv-loop out₀ at source start len i₀ out i =

@@ -1,4 +1,4 @@
--- `compact::put_number` meets its contract. The loop's invariant: storing what is left from `i` on gives what storing all of it gives.
+-- `encoding::put_number` meets its contract. The loop's invariant: storing what is left from `i` on gives what storing all of it gives.
 -- Assumes nothing.
 use Prim.Native.Nat.{_+_, _-_, _≤_}
 use mathlib.Core.Path.{_≡_, refl, sym, _∙_}
@@ -7,9 +7,9 @@ use native.Mathlib.Omega.{arith}
 use lib.ListN.{length, length-set}
 use lib.Seq.{sets}
 use Rattle.number.specs.Number.{bytesOf}
-use Rattle.compact.proofs.Writing.{number-turn}
-use Rattle.compact.proofs.put_number.Statement.{statement}
-use Rattle.compact.proofs.put_number.Tie as tie
+use Rattle.encoding.proofs.Writing.{number-turn}
+use Rattle.encoding.proofs.put_number.Statement.{statement}
+use Rattle.encoding.proofs.put_number.Tie as tie
 
 abbrev Inv-loop : tie.InvT-loop
 Inv-loop out₀ at width value left₀ i₀ out left i =

@@ -1,4 +1,4 @@
--- `compact::put_one` meets its contract: an entry that keeps the limits has the lengths of its ranges, so each store fits, and the stores
+-- `encoding::put_one` meets its contract: an entry that keeps the limits has the lengths of its ranges, so each store fits, and the stores
 -- are the run that writes its encoding.
 -- Assumes nothing.
 use Prim.Native.Nat.{_+_, _≤_}
@@ -6,10 +6,10 @@ use mathlib.Core.Path.{_≡_, _∙_}
 use native.Mathlib.Omega.{arith}
 use borrow.Author.Needs.{needs}
 use lib.ListN.{length, length-set}
 use Rattle.compact.specs.Compact.{encodeOne, meant}
-use Rattle.compact.proofs.Writing.{Keeps, keeps, length-kept, one-stored}
-use Rattle.compact.proofs.put_one.Statement.{statement}
-use Rattle.compact.proofs.put_one.Tie as tie
+use Rattle.encoding.proofs.Writing.{Keeps, keeps, length-kept, one-stored}
+use Rattle.encoding.proofs.put_one.Statement.{statement}
+use Rattle.encoding.proofs.put_one.Tie as tie
 
 -- what is required, as facts of numbers
 record Room (c : tie.Start) : Type 0 where

@@ -1,8 +1,8 @@
--- `compact::not_written` meets its contract: it is made of the refusal's number.
+-- `encoding::not_written` meets its contract: it is made of the refusal's number.
 -- Assumes nothing.
 use borrow.Author.Needs.{needs}
-use Rattle.compact.proofs.not_written.Statement.{statement}
-use Rattle.compact.proofs.not_written.Tie as tie
+use Rattle.encoding.proofs.not_written.Statement.{statement}
+use Rattle.encoding.proofs.not_written.Tie as tie
 
 of-requires : tie.Need-of-requires
 of-requires c κs = search needs

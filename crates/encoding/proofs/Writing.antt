@@ -4,24 +4,24 @@ use Prim.Native.Nat.{ℕ, suc, _+_, _-_, _%_, _/_, _<_, _≤_}
 use mathlib.Core.Path.{_≡_, refl, sym, ap, _∙_}
 use mathlib.Core.Bool.{Bool, true, false, _&&_, false≢true}
 use mathlib.Core.List.{List, [], _∷_, _++_, map}
-use native.Mathlib.Nat.{add-assoc, add-zero}
+use native.Mathlib.Nat.{add-assoc, add-zero, add-suc, suc-add}
 use native.Mathlib.Numerals.{add-one, add-two, one-add}
 use native.Mathlib.Omega.{arith}
-use borrow.Author.Tests.{le-leb, lt-leb, leb-true, leb-false, lt-ltb, le-ltb}
+use borrow.Author.Tests.{le-leb, lt-leb, leb-true, lt-ltb, le-ltb}
 use lib.Dec.{leb}
 use lib.ListN.{length, getD, take, drop, set, length-append, length-take, length-map, drop-of-length-le}
 use lib.Seq.{length-take-le, drop-cons, getD-take, sets, sets-eq}
 use Rattle.answer.specs.Numbers.{answer, accepted, noRoom, notEncodable, firstRefusal}
 use Rattle.number.specs.Number.{bytesOf}
 use Rattle.number.proofs.Laws.{length-bytesOf}
-use Rattle.compact.specs.declared.Range.{Range}
 use Rattle.compact.specs.declared.Entry.{Entry}
 use Rattle.compact.specs.declared.Entries.{Entries}
-use Rattle.compact.specs.declared.Size.{Size}
-use Rattle.compact.specs.declared.Size.the-variants.{Of, NotEncodable}
-use Rattle.compact.specs.Compact.{Instruction, mostInstructions, mostAccounts, mostPayload, encodeOne, encodeEach, encode, part, meant, entriesIn, listOf, within, encodableOne, encodableEach, encodable, writingAnswer, writing, outputAfter, sizeIf}
-use Rattle.compact.proofs.Parts.{length-part, three-runs}
+use Rattle.compact.specs.Compact.{Instruction, mostInstructions, mostAccounts, mostPayload, encodeOne, encodeEach, encode, part, meant, entriesIn, listOf, within}
+use Rattle.compact.proofs.Parts.{length-part}
 use Rattle.compact.proofs.Format.{length-encodeOne}
+use Rattle.encoding.specs.declared.Size.{Size}
+use Rattle.encoding.specs.declared.Size.the-variants.{Of, NotEncodable}
+use Rattle.encoding.specs.Encoding.{encodableOne, encodableEach, encodable, writingAnswer, writing, outputAfter, sizeIf}
 
 pub and-false : (t : Bool) → (t && false) ≡ false
 and-false true = refl
@@ -34,18 +34,6 @@ and-left false b h = h
 pub and-right : (a b : Bool) → (a && b) ≡ true → b ≡ true
 and-right true b h = h
 and-right false b h = absurd (false≢true h)
-
-pub within-left : (source : List ℕ) (r : Range) → r .start ≤ length source → leb (r .len) (length source - r .start) ≡ within source r
-unfolding within
-within-left source r h = go (leb (r .len) (length source - r .start)) refl
-  where
-    go : (t : Bool) → leb (r .len) (length source - r .start) ≡ t → t ≡ leb (r .start + r .len) (length source)
-    go true e = sym (le-leb (r .start + r .len) (length source) (omega (arith, leb-true (r .len) (length source - r .start) e)))
-    go false e = sym (lt-leb (r .start + r .len) (length source) (omega (arith, leb-false (r .len) (length source - r .start) e)))
-
-pub within-past : (source : List ℕ) (r : Range) → length source < r .start → within source r ≡ false
-unfolding within
-within-past source r h = lt-leb (r .start + r .len) (length source) (omega arith)
 
 -- what it says that an entry keeps the limits
 pub record Keeps (source : List ℕ) (e : Entry) : Type 0 where
@@ -165,6 +153,17 @@ module _ (source : List ℕ) (l : Entries) (i : ℕ) (d : Entry) (hc : i < l .co
       let e = getD (l .list) i d in
       let s = sized (encodableOne source e) (length (encodeOne (meant source e))) more h in
       rw (entry-next l i d hc hl, s .0, length-append, s .1, add-assoc)
+
+module _ {A : Type 0} where
+  -- a run of stores and another one after it are one run
+  pub sets-append : (xs ys l : List A) (i : ℕ) → sets (sets l i xs) (i + length xs) ys ≡ sets l i (xs ++ ys)
+  sets-append [] ys l i = rw add-zero
+  sets-append (x ∷ xs) ys l i = rw (add-suc, ← (suc-add i (length xs))) (sets-append xs ys (set l i x) (suc i))
+
+  pub three-runs : (xs ys zs l : List A) (i : ℕ)
+      → sets (sets (sets l i xs) (i + length xs) ys) (i + length xs + length ys) zs ≡ sets l i (xs ++ ys ++ zs)
+  three-runs xs ys zs l i =
+      rw (sets-append xs ys l i, add-assoc i (length xs) (length ys), ← (length-append xs ys)) (sets-append (xs ++ ys) zs l i)
 
 -- a turn of each loop that stores: the byte is the first of those that are left
 pub number-turn : (out : List ℕ) (at width i n : ℕ) → i < width

@@ -1,4 +1,4 @@
--- `compact::put_each` meets its contract. The loop's invariant: storing the encodings that are left from `at` on gives what storing all of
+-- `encoding::put_each` meets its contract. The loop's invariant: storing the encodings that are left from `at` on gives what storing all of
 -- them gives.
 -- Assumes nothing.
 use Prim.Native.Nat.{_+_, _-_, _≤_}
@@ -9,11 +9,11 @@ use native.Mathlib.Omega.{arith}
 use borrow.Author.Needs.{needs}
 use lib.ListN.{length, drop, length-map}
 use lib.Seq.{sets}
-use Rattle.compact.specs.Compact.{mostInstructions, zeroEntry, encodableEach, entriesIn, encodeEach, listOf}
-use Rattle.compact.proofs.Parts.{sets-append}
-use Rattle.compact.proofs.Writing.{leftToStore, left-all, left-none, Next, next-entry, length-encode}
-use Rattle.compact.proofs.put_each.Statement.{statement}
-use Rattle.compact.proofs.put_each.Tie as tie
+use Rattle.compact.specs.Compact.{mostInstructions, zeroEntry, entriesIn, encodeEach, listOf}
+use Rattle.encoding.specs.Encoding.{encodableEach}
+use Rattle.encoding.proofs.Writing.{sets-append, leftToStore, left-all, left-none, Next, next-entry, length-encode}
+use Rattle.encoding.proofs.put_each.Statement.{statement}
+use Rattle.encoding.proofs.put_each.Tie as tie
 
 abbrev Inv-loop : tie.InvT-loop
 Inv-loop out₀ source entries count at₀ i₀ out at i =

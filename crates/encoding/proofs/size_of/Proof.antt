@@ -1,4 +1,4 @@
--- `compact::size_of` meets its contract. The loop's invariant: sizing on from the entry `i` gives what sizing from the first gives.
+-- `encoding::size_of` meets its contract. The loop's invariant: sizing on from the entry `i` gives what sizing from the first gives.
 -- Assumes nothing.
 use Prim.Native.Nat.{_+_, _-_, _*_, _≤_}
 use mathlib.Core.Path.{_≡_, sym, _∙_}
@@ -6,10 +6,11 @@ use native.Mathlib.Numerals.{add-one}
 use native.Mathlib.Omega.{arith}
 use borrow.Author.Needs.{needs}
 use lib.ListN.{length, drop, length-map}
-use Rattle.compact.specs.Compact.{mostInstructions, mostAccounts, mostPayload, sizeIf, encodableEach, entriesIn, encode, listOf}
-use Rattle.compact.proofs.Writing.{sizingOn, sizing-starts, sizing-stops, sizing-goes-on, sizing-ends, size-bound, entry-none}
-use Rattle.compact.proofs.size_of.Statement.{statement}
-use Rattle.compact.proofs.size_of.Tie as tie
+use Rattle.compact.specs.Compact.{mostInstructions, mostAccounts, mostPayload, entriesIn, encode, listOf}
+use Rattle.encoding.specs.Encoding.{sizeIf, encodableEach}
+use Rattle.encoding.proofs.Writing.{sizingOn, sizing-starts, sizing-stops, sizing-goes-on, sizing-ends, size-bound, entry-none}
+use Rattle.encoding.proofs.size_of.Statement.{statement}
+use Rattle.encoding.proofs.size_of.Tie as tie
 
 abbrev Inv-loop : tie.InvT-loop
 Inv-loop source entries count size₀ i₀ size i =
