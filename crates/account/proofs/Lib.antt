@@ -6,5 +6,4 @@ pub mod Parsing
 pub mod Given
 pub mod Views
 pub mod Gluing
-pub mod Lookups
 pub mod Theorems

@@ -1,32 +1,18 @@
 -- What is promised of the account table, each as one sentence.
 -- Assumes nothing.
-use mathlib.Core.Path.{_≡_, refl, ap}
-use mathlib.Core.Bool.{Bool, true, false, not, _&&_, and-eq-true-iff}
-use mathlib.Core.List.{List, [], _∷_}
-use mathlib.Core.Logic.{_↔_}
-use Prim.Native.Nat.{ℕ, zero, suc, _+_, _*_, _<_, _≤_}
-use native.Mathlib.Nat.{not-suc-le-zero, le-of-suc-le-suc}
-use native.Mathlib.Omega.{arith}
-use borrow.Author.Tests.{ltb-true, ltb-false}
-use lib.Dec.{ltb}
-use lib.ListN.{length, take, drop, getD}
-use lib.Seq.{length-take-le}
+use mathlib.Core.Path.{_≡_, refl}
+use mathlib.Core.List.{List}
+use Prim.Native.Nat.{ℕ, _*_, _≤_}
+use lib.ListN.{length, take}
 use Rattle.answer.specs.declared.Answer.{Answer}
-use Rattle.answer.specs.Numbers.{answer, accepted, refuseIf, invalidInstructionData, badTable}
-use Rattle.answer.specs.Refusable.{Refusable, given, refused}
-use Rattle.number.specs.Number.{Bytes, number}
-use Rattle.compact.specs.declared.Entry.{Entry}
-use Rattle.compact.specs.Compact.{within, part}
-use Rattle.compact.proofs.Parts.{length-part}
-use Rattle.account.specs.Table.{Record, AllStorable, cutRecords, cutTable, recordsOf, glueTable, mostRecords}
-use Rattle.account.specs.Indexes.{allBelow, resolvable, resolving, keyAmong, keyAt}
+use Rattle.answer.specs.Numbers.{answer, badTable}
+use Rattle.answer.specs.Refusable.{given, refused}
+use Rattle.number.specs.Number.{Bytes}
+use Rattle.account.specs.Table.{Record, AllStorable, cutTable, recordsOf, glueTable, mostRecords}
 use Rattle.account.specs.Views.{recordsIn, placesOf}
-use Rattle.account.proofs.Given.{none-given, one-given, table-given, table-refusal}
+use Rattle.account.proofs.Given.{table-refusal}
 use Rattle.account.proofs.Views.{records-of-places}
 use Rattle.account.proofs.Gluing.{table-glued, table-bytes}
-use Rattle.account.proofs.Lookups.{key-past, within-ends}
-
--- ---- the table
 
 -- a malformed table is 13, whatever is wrong with it
 pub every-refusal-of-a-table-is-13 : (s : List ℕ) (r : Answer) → cutTable s ≡ refused r → r ≡ answer badTable
@@ -43,76 +29,3 @@ gluing-what-was-cut-gives-the-bytes s l bytes e = table-bytes s l bytes e
 -- the places that cutting answers with name the records of the table, and none where it is malformed
 pub views-name-the-records : (s : List ℕ) → recordsIn s (take (2 * placesOf (cutTable s) .count) (placesOf (cutTable s) .list)) ≡ recordsOf (cutTable s)
 views-name-the-records s = records-of-places s (placesOf (cutTable s)) refl
-
--- ---- lookup
-
-key-lengths : (n : ℕ) (s : List ℕ) (l : List Record) (i : ℕ) → cutRecords n s ≡ given l → i < length l → length (keyAmong l i) ≡ 32
-unfolding keyAmong
-key-lengths zero s l i e h = let (_, none) = none-given s l e in absurd (not-suc-le-zero (rw none at h))
-key-lengths (suc n) s l zero e h =
-    let g = one-given n s l e in
-    let inside = g .is-first .within in
-    rw (g .all, g .is-first .key-is) (length-take-le 32 s (omega arith))
-key-lengths (suc n) s l (suc i) e h =
-    let g = one-given n s l e in
-    rw (g .all) (key-lengths n (g .one .rest) (g .others) i (g .rest-given) (le-of-suc-le-suc (rw (g .all) at h)))
-
--- a lookup gives 32 bytes exactly where the table is sound and the index below its count
-pub a-lookup-gives-32-bytes-exactly-below-the-count : (s : List ℕ) (i : ℕ) → (length (keyAt s i) ≡ 32) ↔ (i < length (recordsOf (cutTable s)))
-unfolding keyAt
-a-lookup-gives-32-bytes-exactly-below-the-count s i = (only (ltb i (length (recordsOf (cutTable s)))) refl, there (cutTable s) refl)
-  where
-    only : (t : Bool) → ltb i (length (recordsOf (cutTable s))) ≡ t → length (keyAmong (recordsOf (cutTable s)) i) ≡ 32 → i < length (recordsOf (cutTable s))
-    only true e h = ltb-true _ _ e
-    only false e h =
-        let none : length (keyAmong (recordsOf (cutTable s)) i) ≡ 0 = ap (λ (k : List ℕ). length k) (key-past (recordsOf (cutTable s)) i (ltb-false _ _ e)) in
-        absurd (omega arith)
-
-    there : (x : Refusable (List Record)) → cutTable s ≡ x → i < length (recordsOf x) → length (keyAmong (recordsOf x) i) ≡ 32
-    there (given l) e h = key-lengths (number _) _ l i (table-given s l e .records-given) h
-    there (refused r) e h = absurd (not-suc-le-zero h)
-
--- ---- resolving
-
-below-each : (count : ℕ) (is : List ℕ) (i : ℕ) → allBelow count is ≡ true → i < length is → getD is i 0 < count
-unfolding allBelow
-below-each count [] i e h = absurd (not-suc-le-zero h)
-below-each count (a ∷ is) zero e h = ltb-true _ _ (and-eq-true-iff (ltb a count) _ .0 e .0)
-below-each count (a ∷ is) (suc i) e h = below-each count is i (and-eq-true-iff (ltb a count) _ .0 e .1) (le-of-suc-le-suc h)
-
-resolved-entry : (s : List ℕ) (e : Entry) (source : List ℕ) → resolving s e source ≡ answer accepted
-    → resolvable (length (recordsOf (cutTable s))) source e ≡ true
-unfolding resolving
-resolved-entry s e source h = go (cutTable s) refl (resolvable _ source e) refl h
-  where
-    go : (x : Refusable (List Record)) → cutTable s ≡ x → (t : Bool) → resolvable (length (recordsOf x)) source e ≡ t
-        → elim x [ given l ↦ refuseIf (not (resolvable (length l) source e)) invalidInstructionData | refused r ↦ r ] ≡ answer accepted
-        → resolvable (length (recordsOf x)) source e ≡ true
-    go (given l) c true d h = d
-    go (given l) c false d h = absurd (let z : _≡_ {A = ℕ} 3 0 = ap (λ (a : Answer). a .number) (rw d at h) in omega arith)
-    go (refused r) c t d h = absurd (let z : _≡_ {A = ℕ} 13 0 = ap (λ (a : Answer). a .number) (rw (table-refusal s r c) at h) in omega arith)
-
--- what an entry that resolves names: parts of its source, and records that a lookup finds
-pub record NamesWhatIsThere (s : List ℕ) (e : Entry) (source : List ℕ) : Type 0 where
-  pub accounts : e .accounts .start + e .accounts .len ≤ length source
-  pub payload : e .payload .start + e .payload .len ≤ length source
-  pub program : length (keyAt s (e .program)) ≡ 32
-  pub indexes : (i : ℕ) → i < e .accounts .len → length (keyAt s (getD (part source (e .accounts)) i 0)) ≡ 32
-
-pub an-entry-that-resolves-names-what-is-there : (s : List ℕ) (e : Entry) (source : List ℕ) → resolving s e source ≡ answer accepted
-    → NamesWhatIsThere s e source
-unfolding resolvable part
-an-entry-that-resolves-names-what-is-there s e source h =
-    let count = length (recordsOf (cutTable s)) in
-    let (three, below) = and-eq-true-iff (within source (e .accounts) && within source (e .payload) && ltb (e .program) count) _ .0 (resolved-entry s e source h) in
-    let (two, program) = and-eq-true-iff (within source (e .accounts) && within source (e .payload)) _ .0 three in
-    let (accounts, payload) = and-eq-true-iff (within source (e .accounts)) _ .0 two in
-    let inside = within-ends source (e .accounts) accounts in
-    let found : (i : ℕ) → i < count → length (keyAt s i) ≡ 32 = λ i. a-lookup-gives-32-bytes-exactly-below-the-count s i .1 in
-    let long : length (take (e .accounts .len) (drop (e .accounts .start) source)) ≡ e .accounts .len = length-part (e .accounts .len) (e .accounts .start) source inside in
-    record {
-      accounts = inside;
-      payload = within-ends source (e .payload) payload;
-      program = found (e .program) (ltb-true _ _ program);
-      indexes = λ i h. found _ (below-each count _ i below (rw long h));
-    }

@@ -1,3 +1,2 @@
 pub mod Table
-pub mod Indexes
 pub mod Views

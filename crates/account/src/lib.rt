@@ -1,7 +1,6 @@
-// The account table: cutting it into views of its records, what a view names, and indexes into it. Any
-// bytes get an answer.
+// The account table: cutting it into views of its records, and what a view names. Any bytes get an
+// answer.
 pub mod fields;
-pub mod indexes;
 pub mod parse;
 
 use answer::Answer;

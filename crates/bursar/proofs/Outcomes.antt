@@ -25,18 +25,19 @@ use Rattle.action.specs.declared.Change.{Change}
 use Rattle.action.specs.declared.HeaderRead.{HeaderRead}
 use Rattle.action.specs.declared.Parsed.{Parsed as action-Parsed}
 use Rattle.creation.specs.Creation.{creation, howOften, storedAnswer}
-use Rattle.compact.specs.Compact.{outputAfter, programsOf, reading, within, writing}
+use Rattle.compact.specs.Compact.{programsOf, reading, within}
 use Rattle.compact.specs.declared.Entries.{Entries}
 use Rattle.compact.specs.declared.Entry.{Entry}
 use Rattle.compact.specs.declared.Parsed.{Parsed as compact-Parsed}
 use Rattle.compact.specs.declared.Programs.{Programs}
 use Rattle.compact.specs.declared.Range.{Range}
-use Rattle.compact.specs.declared.Written.{Written}
-use Rattle.account.specs.Indexes.{keyAmong, keyAt, resolving}
+use Rattle.encoding.specs.Encoding.{outputAfter, writing}
+use Rattle.encoding.specs.declared.Written.{Written}
 use Rattle.account.specs.Table.{cutTable}
 use Rattle.account.specs.Views.{placesOf, recordAt, recordsIn, viewsOf as account-viewsOf, zeroView as account-zeroView}
 use Rattle.account.specs.declared.Places.{Places}
 use Rattle.account.specs.declared.RecordView.{RecordView}
+use Rattle.lookup.specs.Indexes.{keyAmong, keyAt, resolving}
 use Rattle.token.specs.Tokens.{balance as balanceOf, isCounted, isTokenAccount, mintOf}
 use Rattle.limit.specs.Limit.{changeOf, classAnswer, ruleAnswer}
 use Rattle.limit.specs.Views.{chargesAt, settledAt}
@@ -309,10 +310,12 @@ pub compact-within : (source : List ℕ) (range : Range)
     → OneOutcome (λ (r : Bool). r ≡ within source range)
 compact-within _ _ _ _ p q = one-outcome p q
 
--- compact::serialize_compact_instructions
-pub compact-serialize-compact-instructions : (entries : Entries) (source out : List ℕ)
+-- ---- encoding
+
+-- encoding::serialize_compact_instructions
+pub encoding-serialize-compact-instructions : (entries : Entries) (source out : List ℕ)
     → OneOutcome (λ (o : Written × List ℕ). (o .0 ≡ writing entries source out) × (o .1 ≡ outputAfter entries source out))
-compact-serialize-compact-instructions _ _ _ _ _ p q = one-outcome (both p) (both q)
+encoding-serialize-compact-instructions _ _ _ _ _ p q = one-outcome (both p) (both q)
 
 -- ---- account
 
@@ -341,25 +344,27 @@ pub account-fields-places-in : (list : List ℕ) (count : ℕ)
     → OneOutcome (λ (r : List ℕ). r ≡ take (2 * count) list)
 account-fields-places-in _ _ _ _ p q = one-outcome p q
 
--- account::indexes::key_at
-pub account-indexes-key-at : (table places : List ℕ) (index : ℕ)
-    → OneOutcome (λ (r : List ℕ). r ≡ keyAmong (recordsIn table places) index)
-account-indexes-key-at _ _ _ _ _ p q = one-outcome p q
-
--- account::indexes::lookup
-pub account-indexes-lookup : (table : List ℕ) (index : ℕ)
-    → OneOutcome (λ (r : List ℕ). r ≡ keyAt table index)
-account-indexes-lookup _ _ _ _ p q = one-outcome p q
-
--- account::indexes::resolve
-pub account-indexes-resolve : (table : List ℕ) (entry : Entry) (source : List ℕ)
-    → OneOutcome (λ (r : Answer). r ≡ resolving table entry source)
-account-indexes-resolve _ _ _ _ _ p q = one-outcome p q
-
 -- account::parse::cut_places
 pub account-parse-cut-places : (table : List ℕ)
     → OneOutcome (λ (r : Places). r ≡ placesOf (cutTable table))
 account-parse-cut-places _ _ _ p q = one-outcome p q
+
+-- ---- lookup
+
+-- lookup::key_at
+pub lookup-key-at : (table places : List ℕ) (index : ℕ)
+    → OneOutcome (λ (r : List ℕ). r ≡ keyAmong (recordsIn table places) index)
+lookup-key-at _ _ _ _ _ p q = one-outcome p q
+
+-- lookup::lookup
+pub lookup-lookup : (table : List ℕ) (index : ℕ)
+    → OneOutcome (λ (r : List ℕ). r ≡ keyAt table index)
+lookup-lookup _ _ _ _ p q = one-outcome p q
+
+-- lookup::resolve
+pub lookup-resolve : (table : List ℕ) (entry : Entry) (source : List ℕ)
+    → OneOutcome (λ (r : Answer). r ≡ resolving table entry source)
+lookup-resolve _ _ _ _ _ p q = one-outcome p q
 
 -- ---- token
 

@@ -4,6 +4,6 @@ pub mod Lists
 pub mod NamedValues
 pub mod Parts
 pub mod Places
+pub mod Ranges
 pub mod Reading
 pub mod Theorems
-pub mod Writing

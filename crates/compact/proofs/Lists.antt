@@ -1,4 +1,4 @@
--- The laws of whole lists, on which the theorems stand: reading what was encoded, writing what was read.
+-- The laws of whole lists, on which the theorems stand: decoding what was encoded, and reading it.
 -- Assumes nothing.
 use Prim.Native.Nat.{ℕ, zero, suc, _+_, _-_, _≤_}
 use mathlib.Core.Path.{_≡_, refl, sym, ap, _∙_}
@@ -8,17 +8,13 @@ use mathlib.Core.Option.{Option, none, some, Option·none-ne-some}
 use native.Mathlib.Omega.{arith}
 use borrow.Author.Tests.{leb-true, leb-false}
 use lib.Dec.{leb}
-use lib.ListN.{length, take, drop, length-append}
-use lib.Seq.{take-append-seam}
+use lib.ListN.{length, length-append}
 use Rattle.answer.specs.Numbers.{answer, accepts, accepted}
 use Rattle.number.specs.Number.{Bytes, bytesOf}
 use Rattle.number.proofs.Laws.{bytes-append, bytesOf-bytes}
-use Rattle.compact.specs.declared.Entries.{Entries}
-use Rattle.compact.specs.Compact.{Instruction, WritableOne, Writable, BeginsWithAList, Each, mostInstructions, mostAccounts, mostPayload, Read, encodeOne, encodeEach, encode, byte, decodeEach, decode, placed, entriesOf, listOf, refused, reading, encodable, writing, outputAfter}
+use Rattle.compact.specs.Compact.{Instruction, WritableOne, Writable, BeginsWithAList, Each, mostInstructions, mostAccounts, mostPayload, Read, encodeOne, encodeEach, encode, byte, decodeEach, decode, placed, entriesOf, refused, reading}
 use Rattle.compact.proofs.Format.{each-encoded, each-again, each-count, decode-count, decode-too-many}
 use Rattle.compact.proofs.Reading.{outcome, reading-of}
-use Rattle.compact.proofs.Writing.{not-encodable, no-room, written}
-use Rattle.compact.proofs.Places.{encoded-means, encoded-keeps}
 
 -- a list that was read from bytes is its count and that many instructions
 pub decoded : (bytes : List ℕ) (r : Read (List Instruction)) → decode bytes ≡ some r
@@ -87,33 +83,3 @@ accepted-begins bytes hb h = go (decode bytes) refl
     go none e = absurd (false≢true (ap (λ p. accepts (p .answer)) (sym (reading-of bytes none e)) ∙ h))
     go (some r) e =
         record { is = r .value; rest = r .rest; split = sym (encoded-again bytes r hb e); writable = decoded-writable bytes r hb e }
-
--- writing the entries of a list whose encoding lies at the front of the source
-writing-encoded : (is : List Instruction) (rest out : List ℕ) → Writable is → length (encode is) ≤ length out
-    → (writing (entriesOf (placed 1 is)) (encode is ++ rest) out ≡ record { answer = answer accepted; written = length (encode is) })
-    × (outputAfter (entriesOf (placed 1 is)) (encode is ++ rest) out ≡ encode is ++ drop (length (encode is)) out)
-writing-encoded is rest out h room =
-    let means = encoded-means is rest in
-    let done = written (entriesOf (placed 1 is)) (encode is ++ rest) out (encoded-keeps is rest (h .few) (h .each)) (rw means room) in
-    (sym (rw means at (done .0)), sym (rw means at (done .1)))
-
--- what it is that writing gives again what was read
-abbrev pub GivenAgain : List ℕ → List ℕ → Type 0
-GivenAgain bytes out =
-    reading bytes .consumed ≤ length out
-    → (writing (reading bytes .entries) bytes out ≡ record { answer = answer accepted; written = reading bytes .consumed })
-    × (outputAfter (reading bytes .entries) bytes out ≡ take (reading bytes .consumed) bytes ++ drop (reading bytes .consumed) out)
-
-pub encoded-given-again : (is : List Instruction) (rest out : List ℕ) → Writable is → GivenAgain (encode is ++ rest) out
-encoded-given-again is rest out h = rw (reading-encoded is rest (h .few) (short is (h .each)), take-append-seam) (writing-encoded is rest out h)
-
--- what it says that writing accepted
-pub accepted-written : (l : Entries) (source out : List ℕ) → accepts (writing l source out .answer) ≡ true
-    → (encodable source l ≡ true) × (length (encode (listOf source l)) ≤ length out)
-accepted-written l source out h = go (encodable source l) refl (leb (length (encode (listOf source l))) (length out)) refl
-  where
-    go : (t : Bool) → encodable source l ≡ t → (s : Bool) → leb (length (encode (listOf source l))) (length out) ≡ s
-        → (encodable source l ≡ true) × (length (encode (listOf source l)) ≤ length out)
-    go false e s k = absurd (false≢true (ap (λ w. accepts (w .answer)) (not-encodable l source out e .0) ∙ h))
-    go true e false k = absurd (false≢true (ap (λ w. accepts (w .answer)) (no-room l source out e (leb-false _ _ k) .0) ∙ h))
-    go true e true k = (e, leb-true _ _ k)

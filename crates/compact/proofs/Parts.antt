@@ -1,12 +1,12 @@
--- Laws of lists that the code's places need: parts at a place, runs of stores, and a row that is filled from the front.
+-- Laws of lists that the code's places need: parts at a place, and a row that is filled from the front.
 -- Assumes nothing.
 use Prim.Native.Nat.{ℕ, zero, suc, _+_, _-_, _<_, _≤_}
 use mathlib.Core.Path.{_≡_, _∙_}
-use mathlib.Core.List.{List, [], _∷_, _++_}
-use native.Mathlib.Nat.{add-assoc, add-zero, add-suc, suc-add, sub-zero, suc-sub-suc}
+use mathlib.Core.List.{List, _∷_, _++_}
+use native.Mathlib.Nat.{sub-zero, suc-sub-suc}
 use native.Mathlib.Numerals.{add-one, add-two}
 use native.Mathlib.Omega.{arith}
-use lib.ListN.{length, getD, take, drop, set, replicate, length-append, length-drop, length-replicate, take-append-drop}
+use lib.ListN.{length, getD, take, drop, replicate, length-drop, length-replicate, take-append-drop}
 use lib.Seq.{length-take-le, take-at, drop-at, drop-cons, drop-drop, sets, sets-eq}
 
 pub length-part : (n at : ℕ) (s : List ℕ) → at + n ≤ length s → length (take n (drop at s)) ≡ n
@@ -28,16 +28,6 @@ two-off at s h =
     rw (add-one, add-two, drop-cons s at 0, drop-cons s (suc at) 0)
 
 module _ {A : Type 0} where
-  -- a run of stores and another one after it are one run
-  pub sets-append : (xs ys l : List A) (i : ℕ) → sets (sets l i xs) (i + length xs) ys ≡ sets l i (xs ++ ys)
-  sets-append [] ys l i = rw add-zero
-  sets-append (x ∷ xs) ys l i = rw (add-suc, ← (suc-add i (length xs))) (sets-append xs ys (set l i x) (suc i))
-
-  pub three-runs : (xs ys zs l : List A) (i : ℕ)
-      → sets (sets (sets l i xs) (i + length xs) ys) (i + length xs + length ys) zs ≡ sets l i (xs ++ ys ++ zs)
-  three-runs xs ys zs l i =
-      rw (sets-append xs ys l i, add-assoc i (length xs) (length ys), ← (length-append xs ys)) (sets-append (xs ++ ys) zs l i)
-
   drop-replicate : (k n : ℕ) (z : A) → drop k (replicate n z) ≡ replicate (n - k) z
   drop-replicate zero n z = rw sub-zero
   drop-replicate (suc k) zero z = let none : 0 - suc k ≡ 0 = omega arith in rw none

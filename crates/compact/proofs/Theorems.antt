@@ -1,22 +1,19 @@
 -- What is promised of compact instructions, each a sentence over the definitions.
 -- Assumes nothing.
-use Prim.Native.Nat.{ℕ, zero, suc, _+_, _<_, _≤_}
-use mathlib.Core.Path.{_≡_, refl, sym, ap, _∙_, subst}
+use Prim.Native.Nat.{ℕ, zero, suc, _+_, _<_}
+use mathlib.Core.Path.{_≡_, sym, ap, _∙_}
 use mathlib.Core.Bool.{true}
 use mathlib.Core.List.{List, _++_}
 use mathlib.Core.Option.{none, some, Option·some-injective}
 use native.Mathlib.Omega.{arith}
-use lib.ListN.{length, take, drop}
+use lib.ListN.{length, take}
 use Rattle.answer.specs.Numbers.{answer, accepts, accepted}
 use Rattle.answer.specs.Outcome.{one-outcome}
 use Rattle.number.specs.Number.{Bytes}
-use Rattle.compact.specs.declared.Entries.{Entries}
 use Rattle.compact.specs.declared.Parsed.{Parsed}
-use Rattle.compact.specs.Compact.{Instruction, Writable, BeginsWithAList, mostInstructions, Read, encode, decodeOne, decode, placed, entriesOf, listOf, reading, encodable, writing, outputAfter}
+use Rattle.compact.specs.Compact.{Instruction, Writable, BeginsWithAList, mostInstructions, Read, encode, decodeOne, decode, placed, entriesOf, listOf, reading}
 use Rattle.compact.proofs.Format.{one-extends, each-extends, needs-all, decode-count}
-use Rattle.compact.proofs.Writing.{written}
-use Rattle.compact.proofs.Places.{encoded-means, encodable-means}
-use Rattle.compact.proofs.Lists.{decoded, decode-encoded, short, encoded-again, decoded-writable, each-bytes, reading-encoded, accepted-begins, GivenAgain, encoded-given-again, accepted-written}
+use Rattle.compact.proofs.Lists.{decoded, decode-encoded, short, encoded-again, decoded-writable, each-bytes, reading-encoded, accepted-begins}
 
 pub decode-encode : (is : List Instruction) (rest : List ℕ) → Writable is → decode (encode is ++ rest) ≡ some (record { value = is; rest = rest })
 decode-encode is rest h = decode-encoded is rest (h .few) (short is (h .each))
@@ -45,37 +42,6 @@ reading-what-was-encoded is rest h = reading-encoded is rest (h .few) (short is 
 
 pub what-reading-accepts-begins-with-a-list : (bytes : List ℕ) → Bytes bytes → accepts (reading bytes .answer) ≡ true → BeginsWithAList bytes
 what-reading-accepts-begins-with-a-list = accepted-begins
-
-pub writing-what-was-read-gives-the-consumed-bytes : (bytes out : List ℕ) → Bytes bytes → accepts (reading bytes .answer) ≡ true
-    → reading bytes .consumed ≤ length out
-    → (writing (reading bytes .entries) bytes out ≡ record { answer = answer accepted; written = reading bytes .consumed })
-    × (outputAfter (reading bytes .entries) bytes out ≡ take (reading bytes .consumed) bytes ++ drop (reading bytes .consumed) out)
-writing-what-was-read-gives-the-consumed-bytes bytes out hb h =
-    let a = accepted-begins bytes hb h in
-    subst (λ (s : List ℕ). GivenAgain s out) (sym (a .split)) (encoded-given-again (a .is) (a .rest) out (a .writable))
-
-pub reading-what-was-written-gives-the-same-list : (l : Entries) (source out : List ℕ) → accepts (writing l source out .answer) ≡ true
-    → (reading (outputAfter l source out) .answer ≡ answer accepted)
-    × (reading (outputAfter l source out) .consumed ≡ writing l source out .written)
-    × (listOf (outputAfter l source out) (reading (outputAfter l source out) .entries) ≡ listOf source l)
-reading-what-was-written-gives-the-same-list l source out h =
-    let (keeps, room) = accepted-written l source out h in
-    let is = listOf source l in
-    let rest = drop (length (encode is)) out in
-    let done = written l source out keeps room in
-    let limits = encodable-means source l keeps in
-    let all = reading-encoded is rest (limits .0) (limits .1) in
-    rw (← (done .0), ← (done .1), all) (refl, refl, encoded-means is rest)
-
--- entries that mean the same list are written as the same bytes
-pub the-same-list-is-written-alike : (l m : Entries) (source other out : List ℕ) → listOf source l ≡ listOf other m → encodable other m ≡ true
-    → accepts (writing l source out .answer) ≡ true
-    → (writing l source out ≡ writing m other out) × (outputAfter l source out ≡ outputAfter m other out)
-the-same-list-is-written-alike l m source other out same hm h =
-    let (hl, room) = accepted-written l source out h in
-    let one = written l source out hl room in
-    let two = written m other out hm (rw (← same) room) in
-    (sym (one .0) ∙ rw same (two .0), sym (one .1) ∙ rw same (two .1))
 
 -- whatever meets the contract of reading gives one list and one count of bytes consumed
 pub reading-determines-the-list-and-the-count : (bytes : List ℕ) (p q : Parsed) → p ≡ reading bytes → q ≡ reading bytes

@@ -1,25 +1,21 @@
--- Compact instructions: the format, reading and writing.
+-- Compact instructions: the format, and reading.
 -- Assumes nothing.
 use Prim.Native.Nat.{ℕ, zero, suc, _+_, _-_, _<_, _≤_}
 use mathlib.Core.Path.{_≡_}
-use mathlib.Core.Bool.{Bool, true, false, not, cond, _&&_}
+use mathlib.Core.Bool.{Bool, true, false}
 use mathlib.Core.List.{List, [], _∷_, _++_, map}
 use mathlib.Core.Option.{Option, none, some}
-use lib.Dec.{leb, ltb}
+use lib.Dec.{leb}
 use lib.ListN.{length, take, drop, replicate}
-use Rattle.answer.specs.declared.Answer.{Answer}
-use Rattle.answer.specs.Numbers.{answer, accepts, accepted, invalidInstructionData, noRoom, notEncodable, firstRefusal, refuseIf}
+use Rattle.answer.specs.Numbers.{answer, accepted, invalidInstructionData}
 use Rattle.number.specs.Number.{number, bytesOf, Bytes}
 use Rattle.compact.specs.declared.Range.{Range}
 use Rattle.compact.specs.declared.Entry.{Entry}
 use Rattle.compact.specs.declared.Entries.{Entries}
 use Rattle.compact.specs.declared.Parsed.{Parsed}
 use Rattle.compact.specs.declared.Programs.{Programs}
-use Rattle.compact.specs.declared.Written.{Written}
 use Rattle.compact.specs.declared.Head.{Head}
 use Rattle.compact.specs.declared.Head.the-variants.{At, Short}
-use Rattle.compact.specs.declared.Size.{Size}
-use Rattle.compact.specs.declared.Size.the-variants.{Of, NotEncodable}
 
 -- an instruction: the index of its program, those of its accounts, its data
 pub record Instruction : Type 0 where
@@ -184,44 +180,7 @@ listOf source l = map (meant source) (entriesIn l)
 unfoldable pub within : List ℕ → Range → Bool
 within source r = leb (r .start + r .len) (length source)
 
--- whether an entry keeps the writer's limits
-unfoldable pub encodableOne : List ℕ → Entry → Bool
-encodableOne source e =
-    leb (e .accounts .len) mostAccounts && leb (e .payload .len) mostPayload && within source (e .accounts) && within source (e .payload)
-
--- whether each of some entries does
-unfoldable pub encodableEach : List ℕ → List Entry → Bool
-encodableEach source [] = true
-encodableEach source (e ∷ es) = encodableOne source e && encodableEach source es
-
--- whether a list keeps the writer's limits
-unfoldable pub encodable : List ℕ → Entries → Bool
-encodable source l = leb (l .count) mostInstructions && encodableEach source (entriesIn l)
-
--- the answer to writing: first the limits, then the room
-unfoldable pub writingAnswer : Entries → List ℕ → List ℕ → Answer
-writingAnswer l source out =
-    firstRefusal
-    (refuseIf (not (encodable source l)) notEncodable
-    ∷ refuseIf (ltb (length out) (length (encode (listOf source l)))) noRoom
-    ∷ [])
-
--- writing: the answer and the bytes written, none on a refusal
-unfoldable pub writing : Entries → List ℕ → List ℕ → Written
-writing l source out =
-    record { answer = writingAnswer l source out; written = cond (accepts (writingAnswer l source out)) (length (encode (listOf source l))) 0 }
-
--- the output afterwards: the encoding, then the rest as it was; all of it as it was on a refusal
-unfoldable pub outputAfter : Entries → List ℕ → List ℕ → List ℕ
-outputAfter l source out =
-    cond (accepts (writingAnswer l source out)) (encode (listOf source l) ++ drop (length (encode (listOf source l))) out) out
-
 -- the code's answer to reading one instruction at a place: its entry and the place after it
 unfoldable pub headOf : ℕ → Option (Read Instruction) → Head
 headOf at none = Short
 headOf at (some d) = At (placedOne at (d .value)) (at + length (encodeOne (d .value)))
-
--- the code's answer to sizing what is to be written: the size where the limits are kept
-unfoldable pub sizeIf : Bool → ℕ → Size
-sizeIf true size = Of size
-sizeIf false size = NotEncodable

@@ -23,7 +23,7 @@ use Rattle.action.proofs.Changing.{bytes-glued}
 use Rattle.creation.proofs.Theorems.{stored-is-formed, stored-is-regular, glued-is-stored, formed-changed, regular-changed}
 use Rattle.compact.specs.Compact.{Instruction, Read, decode}
 use Rattle.account.specs.Table.{Record, cutTable}
-use Rattle.account.specs.Indexes.{keyAmong}
+use Rattle.lookup.specs.Indexes.{keyAmong}
 use Rattle.account.proofs.Theorems.{every-refusal-of-a-table-is-13}
 use Rattle.limit.specs.Limit.{Charge, refusalOf, breaks, ruleAnswer, ofClass, classAnswer, changeOf, settled}
 use Rattle.limit.proofs.Taking.{EachKept, each-kept}

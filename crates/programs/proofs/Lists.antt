@@ -2,7 +2,7 @@
 -- Assumes nothing.
 use mathlib.Core.Path.{_≡_, ap, _∙_}
 use mathlib.Core.Bool.{Bool, true, false, not, _&&_}
-use mathlib.Core.List.{List, [], _∷_}
+use mathlib.Core.List.{List, _∷_}
 use Prim.Native.Nat.{ℕ, suc, _<_, _≤_}
 use borrow.Author.Tests.{lt-ltb, le-ltb}
 use lib.Dec.{eqb, ltb, lit<}
@@ -20,7 +20,7 @@ use Rattle.creation.specs.Creation.{howOften, kindsOf}
 use Rattle.action.proofs.Views.{actions-step, length-actions}
 use Rattle.creation.proofs.Scanning.{kinds-of-actions}
 use Rattle.account.specs.Table.{Record}
-use Rattle.account.specs.Indexes.{keyAmong}
+use Rattle.lookup.specs.Indexes.{keyAmong}
 use Rattle.programs.specs.Programs.{inLiveList, listsAnswer, programAnswer, programsAnswer}
 
 -- ---- one list

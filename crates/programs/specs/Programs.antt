@@ -12,7 +12,7 @@ use Rattle.action.specs.Region.{Action, expired, programWhitelist, programBlack
 use Rattle.action.specs.Fields.{keyOf}
 use Rattle.creation.specs.Creation.{howOften, kindsOf}
 use Rattle.account.specs.Table.{Record}
-use Rattle.account.specs.Indexes.{keyAmong}
+use Rattle.lookup.specs.Indexes.{keyAmong}
 
 -- whether a live entry of a list, whitelist or blacklist, has a key
 unfoldable pub inLiveList : ℕ → ℕ → List ℕ → List Action → Bool

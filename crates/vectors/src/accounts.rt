@@ -13,7 +13,7 @@ fn resolve_entry(table: &[u8], rest: &[u8]) -> bool {
         return false;
     }
     let entry = instructions::entry_of(&rest[0..instructions::ENTRY_SIZE]);
-    let answer = account::indexes::resolve(table, entry, &rest[instructions::ENTRY_SIZE..]);
+    let answer = lookup::resolve(table, entry, &rest[instructions::ENTRY_SIZE..]);
     text::print_number(answer.number as u64);
     true
 }
@@ -41,6 +41,6 @@ pub(crate) fn lookup(payload: &[u8]) -> bool {
         return false;
     }
     let index = number::read_u64(payload, 0) as usize;
-    text::print_hex(account::indexes::lookup(&payload[INDEX_SIZE..], index));
+    text::print_hex(lookup::lookup(&payload[INDEX_SIZE..], index));
     true
 }

@@ -118,7 +118,7 @@ fn fill(room: &mut [u8]) {
 // Writes a list to an output and prints the number, the bytes written and the output.
 fn write_to(room: &mut [u8], entries: Entries, source: &[u8]) {
     fill(room);
-    let written = compact::serialize_compact_instructions(entries, source, room);
+    let written = encoding::serialize_compact_instructions(entries, source, room);
     let answer = written.answer;
     text::print_number(answer.number as u64);
     text::print_next(written.written as u64);

@@ -2,7 +2,7 @@
 -- Assumes nothing.
 use mathlib.Core.Path.{sym}
 use borrow.Author.Needs.{needs}
-use Rattle.compact.proofs.Writing.{within-past, within-left}
+use Rattle.compact.proofs.Ranges.{within-past, within-left}
 use Rattle.compact.proofs.within.Statement.{statement}
 use Rattle.compact.proofs.within.Tie as tie
 

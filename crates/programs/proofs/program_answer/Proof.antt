@@ -6,7 +6,7 @@ use native.Mathlib.Omega.{arith}
 use lib.ListN.{length}
 use Rattle.account.specs.Views.{recordsIn, zeroView}
 use Rattle.account.proofs.Views.{length-records}
-use Rattle.account.proofs.Lookups.{key-there}
+use Rattle.lookup.proofs.Lookups.{key-there}
 use Rattle.programs.proofs.Lists.{program-out-of-range, program-in-range}
 use borrow.Author.Needs.{needs}
 use Rattle.programs.proofs.program_answer.Statement.{statement}

@@ -1,0 +1,4 @@
+pub mod Limits
+pub mod RoundTrip
+pub mod Theorems
+pub mod Writing

@@ -1,0 +1,2 @@
+pub mod Lookups
+pub mod Theorems
