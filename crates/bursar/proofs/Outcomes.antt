@@ -16,8 +16,7 @@ use Rattle.number.specs.Number.{cappedSum, flooredDifference, numberAt, withNum
 use Rattle.key.specs.Key.{isAmong, keyFrom, keysIn, keysOf, mostKeys, sameBytes, sameKey, withKey}
 use Rattle.key.specs.declared.Key.{Key}
 use Rattle.key.specs.declared.Keys.{Keys}
-use Rattle.action.specs.Fields.{amountsOf as action-amountsOf, changed, changedAmounts, isRecurring, isToken, keyOf, lastReset, limit as limitOf, maximum as maximumOf, remaining as remainingOf, spent as spentOf, window as windowOf}
-use Rattle.mints.specs.Mints.{listedMints}
+use Rattle.action.specs.Fields.{amountsOf, changed, changedAmounts, isRecurring, isToken, keyOf, lastReset, limit as limitOf, maximum as maximumOf, remaining as remainingOf, spent as spentOf, window as windowOf}
 use Rattle.action.specs.Region.{cut, dataLength, expired, mostActions}
 use Rattle.action.specs.Views.{actionAt, actionsIn, dataAt, headerAnswer, headerAt, kindsIn, parsedOf, viewsOf as action-viewsOf, writtenAt, zeroView as action-zeroView}
 use Rattle.action.specs.declared.ActionView.{ActionView}
@@ -25,6 +24,7 @@ use Rattle.action.specs.declared.Change.{Change}
 use Rattle.action.specs.declared.HeaderRead.{HeaderRead}
 use Rattle.action.specs.declared.Parsed.{Parsed as action-Parsed}
 use Rattle.creation.specs.Creation.{creation, howOften, storedAnswer}
+use Rattle.mints.specs.Mints.{listedMints}
 use Rattle.compact.specs.Compact.{programsOf, reading, within}
 use Rattle.compact.specs.declared.Entries.{Entries}
 use Rattle.compact.specs.declared.Entry.{Entry}
@@ -38,14 +38,14 @@ use Rattle.account.specs.Views.{placesOf, recordAt, recordsIn, viewsOf as accou
 use Rattle.account.specs.declared.Places.{Places}
 use Rattle.account.specs.declared.RecordView.{RecordView}
 use Rattle.lookup.specs.Indexes.{keyAmong, keyAt, resolving}
-use Rattle.token.specs.Tokens.{balance as balanceOf, isCounted, isTokenAccount, mintOf}
+use Rattle.token.specs.Tokens.{balance as balanceOf, isCounted, isTokenAccount, mintOf, sumsOf}
+use Rattle.token.specs.declared.Sums.{Sums}
 use Rattle.limit.specs.Limit.{changeOf, classAnswer, ruleAnswer}
 use Rattle.limit.specs.Views.{chargesAt, settledAt}
 use Rattle.programs.specs.Programs.{programsAnswer}
 use Rattle.freeze.specs.Freeze.{allFrozen}
 use Rattle.judge.specs.Judge.{callOf as judge-callOf, judged, regionAfter}
-use Rattle.judge.specs.Views.{amountFrom, amountsOf as judge-amountsOf}
-use Rattle.judge.specs.declared.amounts.Sums.{Sums}
+use Rattle.judge.specs.Views.{amountFrom}
 use Rattle.frame.specs.Frame.{callOf as frame-callOf, noTally, openingOf, partIn, partsToRead, tallied}
 use Rattle.frame.specs.declared.Frame.{Frame}
 use Rattle.frame.specs.declared.Opening.{Opening}
@@ -183,7 +183,7 @@ action-fields-key-of _ _ _ _ p q = one-outcome p q
 
 -- action::fields::amounts_of
 pub action-fields-amounts-of : (region : List ℕ) (view : ActionView)
-    → OneOutcome (λ (r : List ℕ). r ≡ action-amountsOf (actionAt region view))
+    → OneOutcome (λ (r : List ℕ). r ≡ amountsOf (actionAt region view))
 action-fields-amounts-of _ _ _ _ p q = one-outcome p q
 
 -- action::fields::remaining
@@ -225,11 +225,6 @@ action-fields-write-change _ _ _ _ p q = one-outcome p q
 pub action-fields-apply-change : (region : List ℕ) (view : ActionView) (change : Change)
     → OneOutcome (λ (o : List ℕ). o ≡ writtenAt region view (changed change (actionAt region view)))
 action-fields-apply-change _ _ _ _ _ p q = one-outcome p q
-
--- action::mints::listed_mints
-pub action-mints-listed-mints : (region actions : List ℕ)
-    → OneOutcome (λ (r : Keys). r ≡ listedMints (actionsIn region actions))
-action-mints-listed-mints _ _ _ _ p q = one-outcome p q
 
 -- action::parse::expected_data_size
 pub action-parse-expected-data-size : (code : ℕ)
@@ -287,6 +282,13 @@ creation-validate-actions-buffer _ _ _ p q = one-outcome p q
 pub creation-stored-answer : (region : List ℕ) (cut : Answer) (actions : List ℕ)
     → OneOutcome (λ (r : Answer). r ≡ storedAnswer cut (actionsIn region actions))
 creation-stored-answer _ _ _ _ _ p q = one-outcome p q
+
+-- ---- mints
+
+-- mints::listed_mints
+pub mints-listed-mints : (region actions : List ℕ)
+    → OneOutcome (λ (r : Keys). r ≡ listedMints (actionsIn region actions))
+mints-listed-mints _ _ _ _ p q = one-outcome p q
 
 -- ---- compact
 
@@ -388,6 +390,11 @@ pub token-balance : (table places vault mint : List ℕ)
     → OneOutcome (λ (r : ℕ). r ≡ balanceOf vault mint (recordsIn table places))
 token-balance _ _ _ _ _ _ p q = one-outcome p q
 
+-- token::balances
+pub token-balances : (table places vault : List ℕ) (mints : Keys)
+    → OneOutcome (λ (r : Sums). r ≡ sumsOf (map (λ (m : List ℕ). balanceOf vault m (recordsIn table places)) (keysIn mints)))
+token-balances _ _ _ _ _ _ p q = one-outcome p q
+
 -- ---- limit
 
 -- limit::rule_answer
@@ -428,7 +435,7 @@ freeze-verify-token-authorities-unchanged _ _ _ _ _ _ _ _ p q = one-outcome p q
 
 -- judge::amounts::amounts
 pub judge-amounts-amounts : (region actions before «before_places» after «after_places» vault : List ℕ) (sol gross : ℕ) (mints : Keys)
-    → OneOutcome (λ (r : Sums). r ≡ judge-amountsOf (map (amountFrom vault (recordsIn before «before_places») (recordsIn after «after_places») sol gross) (actionsIn region actions)))
+    → OneOutcome (λ (r : Sums). r ≡ sumsOf (map (amountFrom vault (recordsIn before «before_places») (recordsIn after «after_places») sol gross) (actionsIn region actions)))
 judge-amounts-amounts _ _ _ _ _ _ _ _ _ _ _ _ p q = one-outcome p q
 
 -- judge::call::judge
