@@ -6,7 +6,7 @@ use crate::{
     calls::{self, Call},
     chance::Chance,
     region::{self, Action, Recurring, Rule},
-    stream::{self, Entry},
+    stream::{self, Entry, MAX_INSTRUCTIONS},
     subjects::{Published, Subject},
     table::{self, Record, AMOUNT, SPL_TOKEN, TOKEN_ACCOUNT},
     Key,
@@ -97,6 +97,29 @@ fn drawn(oracle: &Oracle, seed: u64, wanted: fn(u32) -> bool) -> Vec<Timed> {
         (wanted(number) && published.is_stored(&timed.region)).then_some(timed)
     });
     timed.take(DRAWN).collect()
+}
+
+/// Calls with no records and no rules, which read sixteen instructions and do no
+/// more.
+pub fn reading(seed: u64) -> Vec<Timed> {
+    let none = table::encode(&[]);
+    let list = |chance: &mut Chance| -> Vec<Entry> {
+        let entry = |program| Entry::draw(chance, program);
+        (0..MAX_INSTRUCTIONS as u8).map(entry).collect()
+    };
+    let call = |case| Call {
+        before: none.clone(),
+        after: none.clone(),
+        instructions: stream::encode(&list(&mut Chance::of_case(seed, BENCH, case))),
+        vault: Key::default(),
+        slot: 1,
+        lamports_before: 0,
+        lamports_after: 0,
+        gross: 0,
+    };
+    (0..DRAWN as u64)
+        .map(|case| timed(Vec::new(), call(case)).expect("the tables were encoded"))
+        .collect()
 }
 
 /// The call with its tables cut, if they are well-formed.

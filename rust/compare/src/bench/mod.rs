@@ -1,8 +1,9 @@
 //! How long a judged call and a creation take through the C boundary, beside
 //! the published Rust on the same cases and in the same process.
 //!
-//! Nothing else can be timed so: reading and writing instructions are not
-//! behind the boundary.
+//! Reading instructions is not behind the boundary by itself: it is timed as
+//! what it adds to a call that does nothing else. Writing them adds nothing to
+//! a call, so it is not timed.
 
 mod clock;
 mod mixes;
@@ -55,7 +56,7 @@ pub fn run(oracle: &Oracle, seed: u64, out: &mut dyn Write) -> io::Result<()> {
     write!(out, "{HEAD}")?;
     let mixes = mixes::mixes(oracle, seed);
     let judged = mixes.iter().chain(&growth).map(|mix| judged(oracle, mix));
-    for figures in judged.chain([created(oracle, seed)]) {
+    for figures in judged.chain([created(oracle, seed), read(oracle, seed)]) {
         let cost = figures.nanoseconds / unit;
         write!(out, "| {} | {cost:.2} | {} |", figures.name, figures.cut)?;
         match figures.tables {
@@ -143,5 +144,38 @@ fn created(oracle: &Oracle, seed: u64) -> Figures {
         cut: Spread::of_ratios(&rust, &boundary),
         tables: None,
         nanoseconds: Spread::of(boundary).median() / REGIONS as f64,
+    }
+}
+
+/// Reading is what a call with the instructions takes longer than the same call
+/// with an empty list.
+fn read(oracle: &Oracle, seed: u64) -> Figures {
+    let calls = mixes::reading(seed);
+    let mut empty = mixes::reading(seed);
+    for timed in &mut empty {
+        timed.call.instructions = vec![0];
+    }
+    let boundary = |timed: &Timed| Archive.judge(&mut [], &timed.call);
+    let rust = |timed: &Timed| published(oracle, &mut [], timed, &timed.before, &timed.after);
+    let all = |calls: &[Timed], judge: &dyn Fn(&Timed) -> u32| {
+        for timed in calls {
+            black_box(judge(black_box(timed)));
+        }
+    };
+    let [boundary, boundary_empty, rust, rust_empty] = time([
+        &|| all(&calls, &boundary),
+        &|| all(&empty, &boundary),
+        &|| all(&calls, &rust),
+        &|| all(&empty, &rust),
+    ]);
+    let added = |with: Vec<f64>, without: Vec<f64>| -> Vec<f64> {
+        with.iter().zip(without).map(|(a, b)| a - b).collect()
+    };
+    let boundary = added(boundary, boundary_empty);
+    Figures {
+        name: "reading 16 instructions".to_string(),
+        cut: Spread::of_ratios(&added(rust, rust_empty), &boundary),
+        tables: None,
+        nanoseconds: Spread::of(boundary).median() / calls.len() as f64,
     }
 }
