@@ -1,22 +1,16 @@
 -- A region that was cut, action by action: what it was cut into is where the views say, and glued it is the region again.
 -- Assumes nothing.
 use mathlib.Core.Path.{_≡_, refl, sym, ap, ap₂, subst, _∙_}
-use mathlib.Core.Bool.{Bool, true, false}
-use mathlib.Core.List.{List, [], _∷_, _++_, map, append-assoc}
+use mathlib.Core.List.{List, [], _∷_, _++_, map}
 use Prim.Native.Nat.{ℕ, zero, suc, _+_, _-_, _*_, _%_, _<_, _≤_}
-use native.Mathlib.Nat.{add-zero, not-suc-le-zero}
 use native.Mathlib.Omega.{arith}
-use lib.Dec.{eqb}
-use lib.ListN.{length, getD, take, drop, replicate, length-append, length-drop, length-map}
-use lib.Seq.{drop-drop, take-add, take-at}
+use lib.ListN.{length, take, drop, replicate, length-drop}
+use lib.Seq.{drop-drop, take-at}
 use Rattle.answer.specs.declared.Answer.{Answer}
-use Rattle.answer.specs.Numbers.{answer, accepted, accepts, actionBufferInvalid}
+use Rattle.answer.specs.Numbers.{answer, actionBufferInvalid}
 use Rattle.answer.specs.Refusable.{Refusable, given, refused, change}
-use Rattle.number.specs.Number.{number, bytesOf, Bytes}
-use Rattle.number.proofs.Laws.{bytesOf-number, bytes-take, bytes-drop}
-use Rattle.action.specs.declared.ActionView.{ActionView}
 use Rattle.action.specs.declared.Parsed.{Parsed}
-use Rattle.action.specs.Region.{Action, First, first, cut, mostActions, glueOne, glue, dataLength, statedLength}
+use Rattle.action.specs.Region.{Action, First, first, cut, mostActions}
 use Rattle.action.specs.Views.{viewAt, placed, zeroView, viewsOf, rowOf, parsedOf, dataAt, actionAt, actionsIn}
 use Rattle.action.proofs.Cutting.{IsFirst, first-is, first-refuses, cut-end, cut-full, cut-refused, cut-first}
 use Rattle.action.proofs.InRow.{row-front}

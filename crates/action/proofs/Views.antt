@@ -1,14 +1,13 @@
 -- Laws of views: what data a view names, and the actions of the counted views one after the other.
 -- Assumes nothing.
 use mathlib.Core.Path.{_≡_, refl, sym, ap, ap₂, _∙_}
-use mathlib.Core.Bool.{Bool, true, false, cond}
 use mathlib.Core.List.{List, [], _∷_, _++_, map, append-assoc, append-nil}
 use mathlib.Core.Logic.{⊎-elim}
-use Prim.Native.Nat.{ℕ, zero, suc, _+_, _-_, _<_, _≤_}
+use Prim.Native.Nat.{ℕ, suc, _+_, _-_, _<_, _≤_}
 use native.Mathlib.Nat.{eq-zero-or-pos}
 use native.Mathlib.Omega.{arith}
-use borrow.Author.Tests.{le-leb, lt-leb, eq-eqb, ne-eqb}
-use lib.Dec.{eqb, lit<}
+use borrow.Author.Tests.{le-leb, lt-leb, ne-eqb}
+use lib.Dec.{lit<}
 use lib.ListN.{length, getD, take, drop, length-drop, take-append-drop, drop-of-length-le, length-take, length-map, List·getD-map}
 use lib.Seq.{drop-cons, drop-drop, drop-at, take-add, take-take, take-all, length-take-le}
 use Rattle.action.specs.declared.ActionView.{ActionView}

@@ -2,7 +2,7 @@
 -- Assumes nothing.
 use mathlib.Core.Path.{_≡_, refl}
 use mathlib.Core.Option.{some}
-use mathlib.Core.List.{[], _++_}
+use mathlib.Core.List.{_++_}
 use lib.ListN.{replicate}
 use Rattle.answer.specs.NamedValue.{AsNamed}
 use Rattle.answer.specs.Numbers.{firstRefusal}

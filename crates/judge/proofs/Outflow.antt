@@ -1,10 +1,10 @@
 -- Laws of the amounts: which one an action has, and laying them one after the other.
 -- Assumes nothing.
 use mathlib.Core.Path.{_≡_, refl, sym, ap, _∙_}
-use mathlib.Core.Bool.{Bool, true, false, _&&_, and-eq-true-iff}
+use mathlib.Core.Bool.{true, false, _&&_, and-eq-true-iff}
 use mathlib.Core.Logic.{⊎-elim}
 use mathlib.Core.List.{List, [], _∷_, _++_, map}
-use Prim.Native.Nat.{ℕ, zero, suc, _+_, _-_, _<_, _≤_, min}
+use Prim.Native.Nat.{ℕ, zero, suc, _+_, _-_, _<_, min}
 use native.Mathlib.Nat.{eq-zero-or-pos}
 use native.Mathlib.Omega.{arith}
 use borrow.Author.Tests.{eq-eqb, ne-eqb, ltb-true}
@@ -18,7 +18,6 @@ use Rattle.key.proofs.Laws.{same-key-eq, length-keys, key-at}
 use Rattle.key.proofs.Searching.{Searched}
 use Rattle.number.specs.Number.{flooredDifference}
 use Rattle.action.specs.declared.ActionView.{ActionView}
-use Rattle.action.specs.Region.{Action}
 use Rattle.action.specs.Fields.{isToken, keyOf}
 use Rattle.action.specs.Views.{viewsOf, zeroView, actionAt, actionsIn}
 use Rattle.account.specs.Table.{Record}

@@ -1,16 +1,16 @@
 -- Laws of the loops over charges: what a rule's answer at the i-th says of all from i on, and settling one view after the other.
 -- Assumes nothing.
-use mathlib.Core.Path.{_≡_, refl, sym, ap, ap₂, _∙_}
+use mathlib.Core.Path.{_≡_, refl, sym, ap, _∙_}
 use mathlib.Core.Bool.{Bool, true, false, cond}
 use mathlib.Core.Logic.{_⊎_, inl, inr, ⊎-elim}
-use mathlib.Core.List.{List, [], _∷_, _++_, map}
-use Prim.Native.Nat.{ℕ, zero, suc, _+_, _-_, _<_, _≤_, min}
+use mathlib.Core.List.{List, [], _∷_}
+use Prim.Native.Nat.{ℕ, zero, suc, _-_, _<_, _≤_, min}
 use native.Mathlib.Nat.{eq-zero-or-pos}
 use native.Mathlib.Omega.{arith}
 use lib.ListN.{length, getD, drop, length-drop}
 use lib.Seq.{drop-cons}
 use Rattle.answer.specs.declared.Answer.{Answer}
-use Rattle.answer.specs.Numbers.{answer, accepted, accepts, firstRefusal}
+use Rattle.answer.specs.Numbers.{answer, accepted, accepts}
 use Rattle.answer.proofs.Laws.{first-passes, first-refuses, no-rule}
 use Rattle.action.specs.declared.ActionView.{ActionView}
 use Rattle.action.specs.declared.Change.{Change}

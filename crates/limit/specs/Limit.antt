@@ -2,7 +2,7 @@
 -- Assumes nothing.
 use Prim.Native.Nat.{ℕ, _*_, _/_}
 use mathlib.Core.Bool.{Bool, true, false, not, cond, _&&_, _||_}
-use mathlib.Core.List.{List, [], _∷_, map}
+use mathlib.Core.List.{List, map}
 use lib.Dec.{eqb, ltb}
 use Rattle.answer.specs.declared.Answer.{Answer}
 use Rattle.answer.specs.Numbers.{answer, accepted, firstRefusal, refuseIf, actionSolMaxPerTxExceeded, actionSolLimitExceeded, actionSolRecurringLimitExceeded, actionTokenMaxPerTxExceeded, actionTokenLimitExceeded, actionTokenRecurringLimitExceeded}

@@ -1,7 +1,7 @@
 -- The mints that a region's token actions list, live or expired.
 -- Assumes nothing.
 use Prim.Native.Nat.{ℕ}
-use mathlib.Core.Bool.{Bool, true, false, cond, _&&_, _||_}
+use mathlib.Core.Bool.{Bool, false, cond, _&&_, _||_}
 use mathlib.Core.List.{List, [], _∷_}
 use Rattle.key.specs.declared.Keys.{Keys}
 use Rattle.key.specs.Key.{sameKey, keysOf, withKey}

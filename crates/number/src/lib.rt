@@ -1,7 +1,6 @@
 // Numbers of 2, 4 and 8 bytes in a lent slice, the lowest byte first, and the two sums that stop
 // at an end of their range. Any place and any slice get an answer.
 ghost use mathlib.Core.Path.{_≡_};
-ghost use mathlib.Core.Bool.{cond};
 ghost use Prim.Native.Nat.{_+_, _≤_};
 ghost use lib.Dec.{leb};
 ghost use lib.ListN.{length, take, drop};

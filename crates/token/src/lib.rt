@@ -103,10 +103,14 @@ pub fn balance(table: &[u8], places: &[usize], vault: &[u8], mint: &[u8]) -> u64
     total
 }
 
-// To how many of `n` mints' totals a record may add: to none where it is not counted.
+// To how many of `n` mints' totals a record may add: to none where it is not counted, which is not
+// asked where there is no mint.
 fn turns_for(table: &[u8], view: RecordView, vault: &[u8], n: usize) -> usize
     ensures { λ r. ⌜ r ≡ cond (isCounted (now (vault .entry)) (recordAt (now (table .entry)) view)) n 0 ⌝ }
 {
+    if n == 0 {
+        return 0;
+    }
     if is_counted(table, view, vault) { n } else { 0 }
 }
 

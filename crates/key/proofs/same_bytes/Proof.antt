@@ -1,6 +1,6 @@
 -- `key::same_bytes` meets its contract. The invariant of both loops: from `i` on the two compare as they do from the start.
 -- Assumes nothing.
-use Prim.Native.Nat.{_+_, _-_, _≤_}
+use Prim.Native.Nat.{_-_, _≤_}
 use mathlib.Core.Path.{_≡_, refl, sym, _∙_}
 use native.Mathlib.Numerals.{add-one}
 use native.Mathlib.Omega.{arith}

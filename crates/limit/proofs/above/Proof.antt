@@ -1,6 +1,6 @@
 -- `limit::above` meets its contract.
 -- Assumes nothing.
-use mathlib.Core.Path.{_≡_, refl, sym, ap, _∙_}
+use mathlib.Core.Path.{sym, _∙_}
 use Rattle.action.specs.Views.{actionAt}
 use Rattle.limit.proofs.Rules.{above-recurring, above-other}
 use borrow.Author.Needs.{needs}

@@ -1,6 +1,6 @@
 -- `limit::base_of` meets its contract.
 -- Assumes nothing.
-use mathlib.Core.Path.{_≡_, refl, sym, ap, _∙_}
+use mathlib.Core.Path.{sym, _∙_}
 use Rattle.limit.specs.Limit.{base}
 use borrow.Author.Needs.{needs}
 use Rattle.limit.proofs.base_of.Statement.{statement}

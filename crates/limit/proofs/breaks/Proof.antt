@@ -1,6 +1,6 @@
 -- `limit::breaks` meets its contract: an amount of 0 breaks nothing, an expired action allows nothing.
 -- Assumes nothing.
-use mathlib.Core.Path.{_≡_, refl, sym, ap, _∙_}
+use mathlib.Core.Path.{sym, _∙_}
 use native.Mathlib.Omega.{arith}
 use Rattle.action.specs.Views.{actionAt}
 use Rattle.limit.proofs.Rules.{breaks-nothing, breaks-expired, breaks-above}

@@ -1,6 +1,6 @@
 -- `limit::change_of` meets its contract: nothing for an amount of 0 or into what is expired.
 -- Assumes nothing.
-use mathlib.Core.Path.{_≡_, refl, sym, ap, _∙_}
+use mathlib.Core.Path.{sym, _∙_}
 use native.Mathlib.Omega.{arith}
 use Rattle.action.specs.Views.{actionAt}
 use Rattle.limit.proofs.Rules.{unchanged-nothing, unchanged-expired, changed-live}

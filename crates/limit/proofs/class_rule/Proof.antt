@@ -1,6 +1,6 @@
 -- `limit::class_rule` meets its contract.
 -- Assumes nothing.
-use mathlib.Core.Path.{_≡_, refl, sym, ap, _∙_}
+use mathlib.Core.Path.{sym, _∙_}
 use borrow.Author.Needs.{needs}
 use Rattle.limit.proofs.class_rule.Statement.{statement}
 use Rattle.limit.proofs.class_rule.Tie as tie

@@ -1,6 +1,6 @@
 -- `limit::spent_change` meets its contract.
 -- Assumes nothing.
-use mathlib.Core.Path.{_≡_, refl, sym, ap, _∙_}
+use mathlib.Core.Path.{sym, _∙_}
 use Rattle.limit.proofs.Rules.{spent-anew, spent-more}
 use borrow.Author.Needs.{needs}
 use Rattle.limit.proofs.spent_change.Statement.{statement}

@@ -1,7 +1,7 @@
 -- `token::balances` meets its contract. The loop's invariant: the totals over the records from `at` on are laid. The inner loop's: those of the
 -- first `j` mints have the record at `at`.
 -- Assumes nothing.
-use Prim.Native.Nat.{ℕ, suc, _+_, _-_, _/_, _<_, _≤_, min}
+use Prim.Native.Nat.{ℕ, suc, _-_, _/_, _<_, _≤_, min}
 use mathlib.Core.Path.{_≡_, refl, sym, ap, _∙_}
 use mathlib.Core.Bool.{Bool, cond}
 use native.Mathlib.Numerals.{add-one}

@@ -1,7 +1,7 @@
 -- `action::fields::amounts_of` meets its contract: the data without the mint, or nothing where it is shorter than that.
 -- Assumes nothing.
 use Prim.Native.Nat.{_-_, _<_, _≤_}
-use mathlib.Core.Path.{sym, _∙_}
+use mathlib.Core.Path.{_∙_}
 use native.Mathlib.Omega.{arith}
 use lib.ListN.{length, drop, length-drop}
 use lib.Seq.{take-all}

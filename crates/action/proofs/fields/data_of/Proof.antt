@@ -1,6 +1,6 @@
 -- `action::fields::data_of` meets its contract: past the two tests the data is there, and else it passes the end.
 -- Assumes nothing.
-use mathlib.Core.Path.{sym, _∙_}
+use mathlib.Core.Path.{sym}
 use native.Mathlib.Nat.{add-sub-cancel-left}
 use native.Mathlib.Omega.{arith}
 use Rattle.action.proofs.Views.{data-there, data-past}

@@ -2,7 +2,6 @@
 -- Assumes nothing.
 use mathlib.Core.Path.{sym}
 use native.Mathlib.Omega.{arith}
-use lib.ListN.{length}
 use lib.Seq.{take-all, length-take-le}
 use Rattle.action.specs.Fields.{keyOf}
 use Rattle.action.specs.Views.{actionAt}

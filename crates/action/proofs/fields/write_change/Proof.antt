@@ -1,6 +1,5 @@
 -- `action::fields::write_change` meets its contract, change by change.
 -- Assumes nothing.
-use mathlib.Core.Path.{_≡_, sym, _∙_}
 use borrow.Author.Needs.{needs}
 use Rattle.action.proofs.fields.write_change.Statement.{statement}
 use Rattle.action.proofs.fields.write_change.Tie as tie

@@ -1,7 +1,7 @@
 -- `action::parse::parse_actions` meets its contract. The loop's invariant is `RowSoFar`; what is left of the region falls.
 -- Assumes nothing.
 use Prim.Native.Nat.{_-_}
-use mathlib.Core.Path.{_≡_, sym, _∙_, ap}
+use mathlib.Core.Path.{_≡_, sym, _∙_}
 use native.Mathlib.Omega.{arith}
 use borrow.Author.Needs.{needs}
 use lib.ListN.{length}

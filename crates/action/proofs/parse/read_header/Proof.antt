@@ -1,6 +1,6 @@
 -- `action::parse::read_header` meets its contract: each test is one of the definition's, at its place in the region.
 -- Assumes nothing.
-use mathlib.Core.Path.{_≡_, sym, _∙_}
+use mathlib.Core.Path.{sym, _∙_}
 use native.Mathlib.Omega.{arith}
 use Rattle.action.proofs.Cutting.{no-header-short, no-header-unknown, no-header-past, header-there}
 use borrow.Author.Needs.{needs}

@@ -1,7 +1,7 @@
 -- `judge::amounts::mint_decreases` meets its contract. The loop's invariant: the decreases of the first `i` mints are laid, whatever mints the two
 -- lists of balances are of; the loop itself has no use for the mints.
 -- Assumes nothing.
-use Prim.Native.Nat.{ℕ, _+_, _-_, _<_, _≤_, min}
+use Prim.Native.Nat.{ℕ, _-_, _<_, _≤_, min}
 use mathlib.Core.Path.{_≡_, refl, _∙_}
 use mathlib.Core.List.{List, []}
 use native.Mathlib.Numerals.{add-one}

@@ -1,6 +1,6 @@
 -- `judge::amounts::token_decrease` meets its contract.
 -- Assumes nothing.
-use mathlib.Core.Path.{_≡_, refl, sym, ap, _∙_}
+use mathlib.Core.Path.{_∙_}
 use Rattle.judge.proofs.Outflow.{mint-decreased}
 use borrow.Author.Needs.{needs}
 use Rattle.judge.proofs.amounts.token_decrease.Statement.{statement}

@@ -1,6 +1,6 @@
 -- `judge::call::checks_answer` meets its contract: the programs decide first.
 -- Assumes nothing.
-use mathlib.Core.Path.{_≡_, refl, sym, ap, _∙_}
+use mathlib.Core.Path.{sym, ap, _∙_}
 use borrow.Author.Tests.{not-true, not-false}
 use Rattle.answer.specs.Numbers.{accepts}
 use Rattle.judge.proofs.Steps.{checks-refused, checks-thawed, checks-passed}

@@ -1,6 +1,6 @@
 -- `judge::call::limits_answer` meets its contract: the SOL rules decide first.
 -- Assumes nothing.
-use mathlib.Core.Path.{_≡_, refl, sym, ap, _∙_}
+use mathlib.Core.Path.{sym, ap, _∙_}
 use borrow.Author.Tests.{not-true, not-false}
 use Rattle.answer.specs.Numbers.{accepts}
 use Rattle.judge.proofs.Steps.{limits-refused, limits-decided}

@@ -1,6 +1,6 @@
 -- `key::Keys::holds` meets its contract. The loop's invariant: the key is among those from `i` on where it is among them all.
 -- Assumes nothing.
-use Prim.Native.Nat.{_+_, _-_, _≤_}
+use Prim.Native.Nat.{_-_, _≤_}
 use mathlib.Core.Path.{_≡_, refl, sym, _∙_}
 use native.Mathlib.Numerals.{add-one}
 use native.Mathlib.Omega.{arith}
