@@ -1,5 +1,5 @@
-// The action region: reading headers, cutting, the fields of an action's data, and the listed mints.
-// Any bytes get an answer.
+// The action region: reading headers, cutting, rows of actions, and the fields of an action's data. Any
+// bytes get an answer.
 pub mod fields;
 pub mod parse;
 pub mod row;

@@ -1,5 +1,5 @@
 // Actions as a row of numbers, four for each: its type's code, its expiry, and where its data starts
-// and how long it is. What a row holds is the views that it was made of.
+// and how long it is. Any row has an answer; what is left over after the last four is passed over.
 use crate::ActionView;
 ghost use mathlib.Core.Path.{_≡_};
 ghost use Prim.Native.Nat.{_*_};

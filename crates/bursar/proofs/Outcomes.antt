@@ -23,7 +23,8 @@ use Rattle.action.specs.declared.ActionView.{ActionView}
 use Rattle.action.specs.declared.Change.{Change}
 use Rattle.action.specs.declared.HeaderRead.{HeaderRead}
 use Rattle.action.specs.declared.Parsed.{Parsed as action-Parsed}
-use Rattle.creation.specs.Creation.{creation, howOften, storedAnswer}
+use Rattle.creation.specs.Creation.{creation, howOften}
+use Rattle.creation.specs.Views.{storedAnswer}
 use Rattle.mints.specs.Mints.{listedMints}
 use Rattle.compact.specs.Compact.{programsOf, reading, within}
 use Rattle.compact.specs.declared.Entries.{Entries}
@@ -38,7 +39,8 @@ use Rattle.account.specs.Views.{placesOf, recordAt, recordsIn, viewsOf as accou
 use Rattle.account.specs.declared.Places.{Places}
 use Rattle.account.specs.declared.RecordView.{RecordView}
 use Rattle.lookup.specs.Indexes.{keyAmong, keyAt, resolving}
-use Rattle.token.specs.Tokens.{balance as balanceOf, isCounted, isTokenAccount, mintOf, sumsOf}
+use Rattle.token.specs.Tokens.{balance as balanceOf, isCounted, isTokenAccount, mintOf}
+use Rattle.token.specs.Views.{sumsOf}
 use Rattle.token.specs.declared.Sums.{Sums}
 use Rattle.limit.specs.Limit.{changeOf, classAnswer, ruleAnswer}
 use Rattle.limit.specs.Views.{chargesAt, settledAt}

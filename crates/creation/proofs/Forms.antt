@@ -15,7 +15,8 @@ use Rattle.action.specs.Views.{parsedOf, actionsIn}
 use Rattle.action.proofs.Cuts.{cut-refuses, rowIn, actions-of-parsed}
 use Rattle.creation.specs.declared.Rule.{Rule}
 use Rattle.creation.specs.declared.Rule.the-variants.{Length, Fresh, Windowed}
-use Rattle.creation.specs.Creation.{allKeep, kindsOf, bothLists, solRepeats, mintRepeats, formOf, creation, inStoredForm, storedAnswer, storedActions}
+use Rattle.creation.specs.Creation.{allKeep, kindsOf, bothLists, solRepeats, mintRepeats, formOf, creation, inStoredForm, storedActions}
+use Rattle.creation.specs.Views.{storedAnswer}
 
 module _ (breach conflict : ℕ) (ending : Rule) (l : List Action) (some : 0 < breach) (other : 0 < conflict) where
   pub form-length : allKeep Length l ≡ false → formOf breach conflict ending l ≡ answer breach

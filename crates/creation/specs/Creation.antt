@@ -83,11 +83,6 @@ unfoldable pub inStoredForm : List Action → Bool
 unfolding formOf
 inStoredForm l = accepts (formOf badRegion badRegion Windowed l)
 
--- what a judged call answers to actions, where cutting them has an answer
-unfoldable pub storedAnswer : Answer → List Action → Answer
-unfolding inStoredForm
-storedAnswer cutting l = refuseIf (not (accepts cutting && inStoredForm l)) badRegion
-
 -- the actions of a region in stored form; any breach is one refusal
 unfoldable pub storedActions : List ℕ → Refusable (List Action)
 unfolding cut inStoredForm

@@ -1,2 +1,3 @@
 pub mod Creation
 pub mod NamedValues
+pub mod Views

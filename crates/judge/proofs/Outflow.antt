@@ -22,7 +22,8 @@ use Rattle.action.specs.Fields.{isToken, keyOf}
 use Rattle.action.specs.Views.{viewsOf, zeroView, actionAt, actionsIn}
 use Rattle.account.specs.Table.{Record}
 use Rattle.token.specs.declared.Sums.{Sums}
-use Rattle.token.specs.Tokens.{balance, sumsOf}
+use Rattle.token.specs.Tokens.{balance}
+use Rattle.token.specs.Views.{sumsOf}
 use Rattle.judge.specs.Judge.{decrease}
 use Rattle.judge.specs.Views.{decreaseOf, solAmount, amountFrom}
 

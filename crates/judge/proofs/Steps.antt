@@ -21,7 +21,8 @@ use Rattle.action.specs.declared.Parsed.{Parsed}
 use Rattle.action.specs.Region.{Action, cut, glue, mostActions}
 use Rattle.mints.specs.Mints.{isListed, listedMints}
 use Rattle.action.specs.declared.ActionView.{ActionView}
-use Rattle.creation.specs.Creation.{inStoredForm, storedAnswer, storedActions}
+use Rattle.creation.specs.Creation.{inStoredForm, storedActions}
+use Rattle.creation.specs.Views.{storedAnswer}
 use Rattle.action.specs.Views.{placed as placedAt, viewsOf, actionsIn, parsedOf}
 use Rattle.action.proofs.Cuts.{cut-cuts, cut-at-most, rowIn, views-of-parsed, actions-of-parsed}
 use Rattle.creation.proofs.Forms.{stored-by-answer}
@@ -38,7 +39,7 @@ use Rattle.account.specs.declared.Places.{Places}
 use Rattle.account.specs.Table.{Record, cutTable, recordsOf}
 use Rattle.account.specs.Views.{recordsIn, placesOf}
 use Rattle.account.proofs.Views.{records-of-places}
-use Rattle.token.specs.Tokens.{sumsOf}
+use Rattle.token.specs.Views.{sumsOf}
 use Rattle.limit.specs.Limit.{Charge, classAnswer, settled}
 use Rattle.limit.specs.Views.{charges, chargesAt, settledViews, settledAt}
 use Rattle.limit.proofs.Settling.{settle-glued}

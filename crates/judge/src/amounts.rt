@@ -18,7 +18,7 @@ ghost use Prim.Native.Nat.{min};
 ghost use lib.ListN.{length};
 ghost use Rattle.key.specs.Key.{keysIn};
 ghost use Rattle.account.specs.Views.{recordsIn};
-ghost use Rattle.token.specs.Tokens.{sumsOf};
+ghost use Rattle.token.specs.Views.{sumsOf};
 ghost use Rattle.action.specs.Region.{mostActions};
 ghost use Rattle.action.specs.Fields.{keyOf};
 ghost use Rattle.action.specs.Views.{viewsOf, actionAt, actionsIn};

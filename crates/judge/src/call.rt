@@ -27,7 +27,7 @@ ghost use lib.ListN.{length};
 ghost use Rattle.answer.specs.Numbers.{accepts};
 ghost use Rattle.account.specs.Table.{cutTable, recordsOf};
 ghost use Rattle.account.specs.Views.{recordsIn};
-ghost use Rattle.token.specs.Tokens.{sumsOf};
+ghost use Rattle.token.specs.Views.{sumsOf};
 ghost use Rattle.action.specs.Views.{actionsIn};
 ghost use Rattle.limit.specs.Views.{chargesAt, settledAt};
 ghost use Rattle.judge.specs.Judge.{callOf, answerOf, judged, regionAfter};

@@ -2,7 +2,7 @@
 -- Assumes nothing.
 use mathlib.Core.Path.{_≡_, refl, sym, ap, _∙_}
 use mathlib.Core.Bool.{Bool, true, false, cond}
-use mathlib.Core.List.{List, [], _∷_, _++_, map}
+use mathlib.Core.List.{List, [], _∷_, _++_, map, map-congr-left}
 use Prim.Native.Nat.{ℕ, suc, _+_, _-_, _/_, _<_, _≤_}
 use native.Mathlib.Omega.{arith}
 use lib.ListN.{length, getD, take, drop, set, replicate, length-take, length-map, drop-of-length-le, List·getD-map, replicate-append-replicate}
@@ -12,12 +12,9 @@ use Rattle.number.specs.Number.{cappedSum}
 use Rattle.account.specs.declared.RecordView.{RecordView}
 use Rattle.account.specs.Views.{recordAt, viewsOf, recordsIn}
 use Rattle.account.proofs.Views.{length-records}
-use Rattle.token.specs.Tokens.{mintOf, amountOf, isCounted, balance, sumsOf}
+use Rattle.token.specs.Tokens.{mintOf, amountOf, isCounted, balance}
+use Rattle.token.specs.Views.{sumsOf}
 use Rattle.token.proofs.Counting.{balance-none, balance-fits, balance-step, stays-not-counted, counted-adds}
-
-map-same : (f g : List ℕ → ℕ) → ((k : List ℕ) → f k ≡ g k) → (ks : List (List ℕ)) → map f ks ≡ map g ks
-map-same f g same [] = refl
-map-same f g same (k ∷ ks) = rw (same k, map-same f g same ks)
 
 map-zero : (f : List ℕ → ℕ) → ((k : List ℕ) → f k ≡ 0) → (ks : List (List ℕ)) → map f ks ≡ replicate (length ks) 0
 map-zero f zeros [] = refl
@@ -96,7 +93,7 @@ module _ (vault s row : List ℕ) (ks : List (List ℕ)) where
           rw (take-all turns (map (from i) ks) (omega arith), drop-of-length-le (map (from (suc i)) ks) {i = turns} (omega arith))
       go false c =
           let none : turns ≡ 0 = e ∙ ap (λ (t : Bool). cond t (length ks) 0) c in
-          let same = map-same (from (suc i)) (from i) (λ (k : List ℕ). sym (balance-step vault k s row i d inside ∙ stays-not-counted _ vault k _ (balance-fits vault k _) c)) ks in
+          let same = map-congr-left {f = from (suc i)} {g = from i} {l = ks} (λ k m. sym (balance-step vault k s row i d inside ∙ stays-not-counted _ vault k _ (balance-fits vault k _) c)) in
           rw (none, same)
 
   pub all-laid : length ks ≤ 16 → record { list = laid 0 } ≡ sumsOf (map (λ (k : List ℕ). balance vault k (recordsIn s row)) ks)

@@ -1,14 +1,13 @@
 -- Token accounts: which records are counted, and a mint's balance over them.
 -- Assumes nothing.
-use Prim.Native.Nat.{ℕ, _+_, _-_, min}
+use Prim.Native.Nat.{ℕ, _+_, min}
 use mathlib.Core.Bool.{Bool, cond, _&&_, _||_}
-use mathlib.Core.List.{List, [], _∷_, _++_}
+use mathlib.Core.List.{List, [], _∷_}
 use lib.Dec.{leb}
-use lib.ListN.{length, take, drop, replicate}
+use lib.ListN.{length, take, drop}
 use Rattle.key.specs.Key.{sameKey}
 use Rattle.number.specs.Number.{numberAt, highest}
 use Rattle.account.specs.Table.{Record}
-use Rattle.token.specs.declared.Sums.{Sums}
 
 -- the two token programs
 abbrev pub splToken : List ℕ
@@ -62,11 +61,3 @@ holdings vault mint (r ∷ l) = share vault mint r + holdings vault mint l
 unfoldable pub balance : List ℕ → List ℕ → List Record → ℕ
 unfolding holdings
 balance vault mint l = min (holdings vault mint l) highest
-
--- the most sums of a list
-abbrev pub mostSums : ℕ
-mostSums = 16
-
--- the first sixteen sums, and zeros past the last
-unfoldable pub sumsOf : List ℕ → Sums
-sumsOf xs = record { list = take mostSums xs ++ replicate (mostSums - length xs) 0 }

@@ -16,7 +16,8 @@ ghost use mathlib.Core.List.{List, map};
 ghost use Prim.Native.Nat.{ℕ};
 ghost use Rattle.key.specs.Key.{sameKey, keysIn};
 ghost use Rattle.number.specs.Number.{cappedSum};
-ghost use Rattle.token.specs.Tokens.{isTokenAccount, mintOf, amountOf, isCounted, share, balance as balanceOf, sumsOf};
+ghost use Rattle.token.specs.Tokens.{isTokenAccount, mintOf, amountOf, isCounted, share, balance as balanceOf};
+ghost use Rattle.token.specs.Views.{sumsOf};
 ghost use Rattle.account.specs.Views.{recordAt, recordsIn};
 
 const TOKEN_ACCOUNT_MIN_SIZE: usize = 165;
