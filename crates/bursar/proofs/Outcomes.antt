@@ -13,9 +13,10 @@ use Rattle.answer.specs.Outcome.{one-outcome}
 use Rattle.answer.specs.Refusable.{refused}
 use Rattle.answer.specs.declared.Answer.{Answer}
 use Rattle.number.specs.Number.{cappedSum, flooredDifference, numberAt, withNumberAt}
-use Rattle.key.specs.Key.{isAmong, keyFrom, keysIn, keysOf, mostKeys, sameBytes, sameKey, withKey}
+use Rattle.key.specs.Key.{keyFrom, sameBytes, sameKey}
 use Rattle.key.specs.declared.Key.{Key}
-use Rattle.key.specs.declared.Keys.{Keys}
+use Rattle.keys.specs.Keys.{isAmong, keysIn, keysOf, mostKeys, withKey}
+use Rattle.keys.specs.declared.Keys.{Keys}
 use Rattle.action.specs.Fields.{amountsOf, changed, changedAmounts, isRecurring, isToken, keyOf, lastReset, limit as limitOf, maximum as maximumOf, remaining as remainingOf, spent as spentOf, window as windowOf}
 use Rattle.action.specs.Region.{cut, dataLength, expired, mostActions}
 use Rattle.action.specs.Views.{actionAt, actionsIn, dataAt, headerAnswer, headerAt, kindsIn, parsedOf, viewsOf as action-viewsOf, writtenAt, zeroView as action-zeroView}
@@ -127,34 +128,36 @@ pub key-Key-is : (self : Key) (key : List ℕ)
     → OneOutcome (λ (r : Bool). r ≡ sameKey (self .bytes) key)
 key-Key-is _ _ _ _ p q = one-outcome p q
 
--- key::Key::goes_on
-pub key-Key-goes-on : (self : Key) (key : List ℕ) (at count : ℕ)
-    → OneOutcome (λ (r : Bool). r ≡ (ltb (at + 1) count && not (sameKey (self .bytes) key)))
-key-Key-goes-on _ _ _ _ _ _ p q = one-outcome p q
+-- ---- keys
 
--- key::Key::is_found
-pub key-Key-is-found : (self : Key) (key : List ℕ) (count : ℕ)
-    → OneOutcome (λ (r : Bool). r ≡ (ltb 0 count && sameKey (self .bytes) key))
-key-Key-is-found _ _ _ _ _ p q = one-outcome p q
+-- keys::goes_on
+pub keys-goes-on : (k : Key) (key : List ℕ) (at count : ℕ)
+    → OneOutcome (λ (r : Bool). r ≡ (ltb (at + 1) count && not (sameKey (k .bytes) key)))
+keys-goes-on _ _ _ _ _ _ p q = one-outcome p q
 
--- key::counted
-pub key-counted : (count : ℕ)
+-- keys::is_found
+pub keys-is-found : (k : Key) (key : List ℕ) (count : ℕ)
+    → OneOutcome (λ (r : Bool). r ≡ (ltb 0 count && sameKey (k .bytes) key))
+keys-is-found _ _ _ _ _ p q = one-outcome p q
+
+-- keys::counted
+pub keys-counted : (count : ℕ)
     → OneOutcome (λ (r : ℕ). r ≡ min count mostKeys)
-key-counted _ _ _ p q = one-outcome p q
+keys-counted _ _ _ p q = one-outcome p q
 
--- key::Keys::none
-pub key-Keys-none : OneOutcome (λ (r : Keys). r ≡ keysOf [])
-key-Keys-none _ _ p q = one-outcome p q
+-- keys::Keys::none
+pub keys-Keys-none : OneOutcome (λ (r : Keys). r ≡ keysOf [])
+keys-Keys-none _ _ p q = one-outcome p q
 
--- key::Keys::holds
-pub key-Keys-holds : (self : Keys) (key : List ℕ)
+-- keys::Keys::holds
+pub keys-Keys-holds : (self : Keys) (key : List ℕ)
     → OneOutcome (λ (r : Bool). r ≡ isAmong key (keysIn self))
-key-Keys-holds _ _ _ _ p q = one-outcome p q
+keys-Keys-holds _ _ _ _ p q = one-outcome p q
 
--- key::Keys::with
-pub key-Keys-with : (self : Keys) (key : List ℕ)
+-- keys::Keys::with
+pub keys-Keys-with : (self : Keys) (key : List ℕ)
     → OneOutcome (λ (r : Keys). r ≡ withKey self key)
-key-Keys-with _ _ _ _ p q = one-outcome p q
+keys-Keys-with _ _ _ _ p q = one-outcome p q
 
 -- ---- action
 

@@ -9,9 +9,10 @@ use native.Mathlib.Omega.{arith}
 use lib.ListN.{length, getD, take, drop, length-drop, drop-of-length-le}
 use lib.Seq.{take-all, take-nil}
 use Rattle.key.specs.declared.Key.{Key}
-use Rattle.key.specs.declared.Keys.{Keys}
-use Rattle.key.specs.Key.{sameKey, sameBytes, isAmong, keysIn}
-use Rattle.key.proofs.Laws.{keys-step, keys-end}
+use Rattle.keys.specs.declared.Keys.{Keys}
+use Rattle.key.specs.Key.{sameKey, sameBytes}
+use Rattle.keys.specs.Keys.{isAmong, keysIn}
+use Rattle.keys.proofs.Laws.{keys-step, keys-end}
 use Rattle.account.specs.declared.RecordView.{RecordView}
 use Rattle.account.specs.Table.{Record}
 use Rattle.token.specs.Tokens.{isTokenAccount, isCounted, mintOf}

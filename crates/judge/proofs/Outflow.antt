@@ -12,10 +12,12 @@ use lib.Dec.{ltb}
 use lib.ListN.{length, getD, take, set, replicate, length-take, length-map, List·getD-map, List·getD-append}
 use lib.Seq.{take-all, take-suc, getD-take, set-at, append-snoc}
 use Rattle.key.specs.declared.Key.{Key}
-use Rattle.key.specs.declared.Keys.{Keys}
-use Rattle.key.specs.Key.{sameKey, keysIn}
-use Rattle.key.proofs.Laws.{same-key-eq, length-keys, key-at}
-use Rattle.key.proofs.Searching.{Searched}
+use Rattle.keys.specs.declared.Keys.{Keys}
+use Rattle.key.specs.Key.{sameKey}
+use Rattle.keys.specs.Keys.{keysIn}
+use Rattle.key.proofs.Laws.{same-key-eq}
+use Rattle.keys.proofs.Laws.{length-keys, key-at}
+use Rattle.keys.proofs.Searching.{Searched}
 use Rattle.number.specs.Number.{flooredDifference}
 use Rattle.action.specs.declared.ActionView.{ActionView}
 use Rattle.action.specs.Fields.{isToken, keyOf}

@@ -15,8 +15,8 @@ use Rattle.answer.specs.Numbers.{answer, accepted, accepts, firstRefusal, refus
 use Rattle.answer.specs.Refusable.{Refusable, given, refused}
 use Rattle.answer.proofs.Laws.{first-passes, first-refuses, rule-holds, rule-broken, no-rule, only, first-append}
 use Rattle.number.specs.Number.{Bytes}
-use Rattle.key.specs.declared.Keys.{Keys}
-use Rattle.key.specs.Key.{isAmong, keysIn}
+use Rattle.keys.specs.declared.Keys.{Keys}
+use Rattle.keys.specs.Keys.{isAmong, keysIn}
 use Rattle.action.specs.declared.Parsed.{Parsed}
 use Rattle.action.specs.Region.{Action, cut, glue, mostActions}
 use Rattle.mints.specs.Mints.{isListed, listedMints}

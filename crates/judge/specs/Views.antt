@@ -6,8 +6,8 @@ use mathlib.Core.List.{List, [], _∷_}
 use lib.Dec.{eqb}
 use Rattle.answer.specs.declared.Answer.{Answer}
 use Rattle.answer.specs.Numbers.{answer, accepted, firstRefusal, refuseIf, sessionTokenAuthorityChanged}
-use Rattle.key.specs.declared.Keys.{Keys}
-use Rattle.key.specs.Key.{isAmong, keysIn}
+use Rattle.keys.specs.declared.Keys.{Keys}
+use Rattle.keys.specs.Keys.{isAmong, keysIn}
 use Rattle.action.specs.Region.{Action, solMaxPerTx}
 use Rattle.action.specs.Fields.{isToken, keyOf}
 use Rattle.mints.specs.Mints.{listedMints}

@@ -6,7 +6,7 @@ use action::fields::is_token;
 use action::fields::key_of;
 use action::row::action_in;
 use action::row::how_many;
-use key::Keys;
+use keys::Keys;
 use number::floored_difference;
 use token::Sums;
 use token::balance;
@@ -16,7 +16,7 @@ ghost use mathlib.Core.Bool.{true};
 ghost use mathlib.Core.List.{map};
 ghost use Prim.Native.Nat.{min};
 ghost use lib.ListN.{length};
-ghost use Rattle.key.specs.Key.{keysIn};
+ghost use Rattle.keys.specs.Keys.{keysIn};
 ghost use Rattle.account.specs.Views.{recordsIn};
 ghost use Rattle.token.specs.Views.{sumsOf};
 ghost use Rattle.action.specs.Region.{mostActions};
@@ -54,7 +54,7 @@ fn mint_decreases(
 {
     let had = balances(before, before_places, vault, mints);
     let has = balances(after, after_places, vault, mints);
-    let n = key::counted(mints.count);
+    let n = keys::counted(mints.count);
     let mut list = [0u64; MAX_ACTIONS];
     let mut i = 0;
     while i < n {
@@ -130,7 +130,7 @@ pub fn amounts(
     ensures { λ r. ⌜ r ≡ sumsOf (map (amountFrom (now (vault .entry)) (recordsIn (now (before .entry)) (now («before_places» .entry))) (recordsIn (now (after .entry)) (now («after_places» .entry))) sol gross) (actionsIn (now (region .entry)) (now (actions .entry)))) ⌝ }
 {
     let decreases = mint_decreases(before, before_places, after, after_places, vault, mints);
-    let count = key::counted(mints.count);
+    let count = keys::counted(mints.count);
     let n = counted(actions);
     let mut list = [0u64; MAX_ACTIONS];
     let mut i = 0;
@@ -139,13 +139,13 @@ pub fn amounts(
         let mint = key_of(region, view);
         let mut at = 0;
         let mut k = mints.list[0];
-        while k.goes_on(mint, at, count) {
+        while keys::goes_on(k, mint, at, count) {
             at += 1;
             k = mints.list[at];
         }
         let amount = amount_known(
             decreases.list[at],
-            k.is_found(mint, count),
+            keys::is_found(k, mint, count),
             region,
             view,
             before,

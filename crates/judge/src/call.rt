@@ -14,7 +14,7 @@ use compact::programs_in;
 use creation::stored_answer;
 use freeze::verify_token_authorities_unchanged;
 use key::KEY_LENGTH;
-use key::Keys;
+use keys::Keys;
 use limit::class_answer;
 use limit::settle;
 use mints::listed_mints;

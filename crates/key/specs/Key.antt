@@ -1,20 +1,15 @@
--- Keys of 32 bytes, compared, and lists of at most 16 of them without repeats.
+-- Keys of 32 bytes, compared.
 -- Assumes nothing.
-use Prim.Native.Nat.{ℕ, _+_, _-_}
-use mathlib.Core.Bool.{Bool, true, false, not, cond, _&&_, _||_}
-use mathlib.Core.List.{List, [], _∷_, _++_, map}
-use lib.Dec.{eqb, ltb}
-use lib.ListN.{length, take, set, replicate}
+use Prim.Native.Nat.{ℕ}
+use mathlib.Core.Bool.{Bool, true, false, cond, _&&_}
+use mathlib.Core.List.{List, [], _∷_}
+use lib.Dec.{eqb}
+use lib.ListN.{length, replicate}
 use Rattle.key.specs.declared.Key.{Key}
-use Rattle.key.specs.declared.Keys.{Keys}
 
 -- the bytes of a key
 abbrev pub keyLength : ℕ
 keyLength = 32
-
--- the most keys of a list
-abbrev pub mostKeys : ℕ
-mostKeys = 16
 
 -- whether two rows of bytes are the same
 unfoldable pub sameBytes : List ℕ → List ℕ → Bool
@@ -27,34 +22,10 @@ sameBytes (x ∷ xs) (y ∷ ys) = eqb x y && sameBytes xs ys
 unfoldable pub sameKey : List ℕ → List ℕ → Bool
 sameKey a b = eqb (length a) keyLength && eqb (length b) keyLength && sameBytes a b
 
--- whether a key is among some
-unfoldable pub isAmong : List ℕ → List (List ℕ) → Bool
-isAmong key [] = false
-isAmong key (k ∷ ks) = sameKey k key || isAmong key ks
-
--- some keys and one more, unless it is among them
-unfoldable pub withOne : List (List ℕ) → List ℕ → List (List ℕ)
-withOne ks key = cond (isAmong key ks) ks (ks ++ (key ∷ []))
-
--- the keys that a list holds
-unfoldable pub keysIn : Keys → List (List ℕ)
-keysIn l = take (l .count) (map (λ (k : Key). k .bytes) (l .list))
-
--- the key of zeros, which stands past the last
+-- the key of zeros
 unfoldable pub zeroKey : Key
 zeroKey = record { bytes = replicate 32 0 }
 
 -- the key of a part that has its length, and the key of zeros for any other
 unfoldable pub keyFrom : List ℕ → Key
 keyFrom part = cond (eqb (length part) keyLength) (record { bytes = part }) zeroKey
-
--- the list that holds some keys, and zeros past the last
-unfoldable pub keysOf : List (List ℕ) → Keys
-keysOf ks = record { list = map (λ (k : List ℕ). record { bytes = k }) ks ++ replicate (mostKeys - length ks) zeroKey; count = length ks }
-
--- a list with one key more; the list itself where it is full, where the key is none, or where it is among its keys
-unfoldable pub withKey : Keys → List ℕ → Keys
-withKey l key =
-    cond (ltb (l .count) mostKeys && eqb (length key) keyLength && not (isAmong key (keysIn l)))
-    (record { list = set (l .list) (l .count) (record { bytes = key }); count = l .count + 1 })
-    l

@@ -9,9 +9,10 @@ use borrow.Author.Tests.{eqb-true}
 use lib.Dec.{eqb, lit≤}
 use lib.ListN.{length}
 use lib.Seq.{length-take-le}
-use Rattle.key.specs.declared.Keys.{Keys}
-use Rattle.key.specs.Key.{sameKey, isAmong, keysIn, keysOf, zeroKey, withKey}
-use Rattle.key.proofs.Laws.{among-with-one, with-key-in, with-key-next}
+use Rattle.keys.specs.declared.Keys.{Keys}
+use Rattle.key.specs.Key.{sameKey, zeroKey}
+use Rattle.keys.specs.Keys.{isAmong, keysIn, keysOf, withKey}
+use Rattle.keys.proofs.Laws.{among-with-one, with-key-in, with-key-next}
 use Rattle.action.specs.Region.{Action, dataLength, sizeAmong}
 use Rattle.action.specs.Fields.{isToken, keyOf}
 use Rattle.mints.specs.Mints.{isListed, withMint, withMints, listedMints}

@@ -8,9 +8,10 @@ use native.Mathlib.Omega.{arith}
 use borrow.Author.Tests.{not-true, eqb-true, ltb-true}
 use lib.Dec.{eqb, ltb}
 use lib.ListN.{length, getD, drop, set, length-set, drop-of-length-le}
-use Rattle.key.specs.declared.Keys.{Keys}
-use Rattle.key.specs.Key.{isAmong, keysIn, keysOf, keyFrom, withKey}
-use Rattle.key.proofs.Filling.{with-new}
+use Rattle.keys.specs.declared.Keys.{Keys}
+use Rattle.keys.specs.Keys.{isAmong, keysIn, keysOf, withKey}
+use Rattle.key.specs.Key.{keyFrom}
+use Rattle.keys.proofs.Filling.{with-new}
 use Rattle.action.specs.declared.ActionView.{ActionView}
 use Rattle.action.specs.Region.{Action}
 use Rattle.action.specs.Fields.{isToken, keyOf}

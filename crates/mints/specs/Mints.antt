@@ -3,8 +3,9 @@
 use Prim.Native.Nat.{ℕ}
 use mathlib.Core.Bool.{Bool, false, cond, _&&_, _||_}
 use mathlib.Core.List.{List, [], _∷_}
-use Rattle.key.specs.declared.Keys.{Keys}
-use Rattle.key.specs.Key.{sameKey, keysOf, withKey}
+use Rattle.keys.specs.declared.Keys.{Keys}
+use Rattle.key.specs.Key.{sameKey}
+use Rattle.keys.specs.Keys.{keysOf, withKey}
 use Rattle.action.specs.Region.{Action}
 use Rattle.action.specs.Fields.{isToken, keyOf}
 

@@ -6,13 +6,14 @@ use action::row::action_in;
 use action::row::how_many;
 use key::KEY_LENGTH;
 use key::Key;
-use key::Keys;
-use key::MAX_KEYS;
+use keys::Keys;
+use keys::MAX_KEYS;
 ghost use mathlib.Core.Path.{_≡_};
 ghost use mathlib.Core.Bool.{not, _&&_};
 ghost use lib.Dec.{eqb, ltb};
 ghost use lib.ListN.{length};
-ghost use Rattle.key.specs.Key.{sameKey, keyLength, mostKeys};
+ghost use Rattle.key.specs.Key.{sameKey, keyLength};
+ghost use Rattle.keys.specs.Keys.{mostKeys};
 ghost use Rattle.action.specs.Fields.{isToken};
 ghost use Rattle.mints.specs.Mints.{listedMints};
 ghost use Rattle.action.specs.Views.{actionsIn};
@@ -30,7 +31,7 @@ fn is_new(view: ActionView, mint: &[u8], k: Key, count: usize) -> bool
     if mint.len() != KEY_LENGTH {
         return false;
     }
-    !k.is_found(mint, count)
+    !keys::is_found(k, mint, count)
 }
 
 // The list is filled where it stands: handed on for each action, all of it would be copied.
@@ -46,7 +47,7 @@ pub fn listed_mints(region: &[u8], actions: &[u64]) -> Keys
         let count = mints.count;
         let mut at = 0;
         let mut k = mints.list[0];
-        while k.goes_on(mint, at, count) {
+        while keys::goes_on(k, mint, at, count) {
             at += 1;
             k = mints.list[at];
         }

@@ -8,13 +8,14 @@ use account::fields::record_owner;
 use account::fields::record_payload;
 use account::fields::view_in;
 use key::Key;
-use key::Keys;
-use key::MAX_KEYS;
+use keys::Keys;
+use keys::MAX_KEYS;
 ghost use mathlib.Core.Path.{_≡_};
 ghost use mathlib.Core.Bool.{cond};
 ghost use mathlib.Core.List.{List, map};
 ghost use Prim.Native.Nat.{ℕ};
-ghost use Rattle.key.specs.Key.{sameKey, keysIn};
+ghost use Rattle.key.specs.Key.{sameKey};
+ghost use Rattle.keys.specs.Keys.{keysIn};
 ghost use Rattle.number.specs.Number.{cappedSum};
 ghost use Rattle.token.specs.Tokens.{isTokenAccount, mintOf, amountOf, isCounted, share, balance as balanceOf};
 ghost use Rattle.token.specs.Views.{sumsOf};
@@ -131,7 +132,7 @@ fn with_amount(total: u64, k: Key, mint: &[u8], amount: u64) -> u64
 pub fn balances(table: &[u8], places: &[usize], vault: &[u8], mints: Keys) -> Sums
     ensures { λ r. ⌜ r ≡ sumsOf (map (λ (m : List ℕ). balanceOf (now (vault .entry)) m (recordsIn (now (table .entry)) (now (places .entry)))) (keysIn mints)) ⌝ }
 {
-    let n = key::counted(mints.count);
+    let n = keys::counted(mints.count);
     let mut list = [0u64; MAX_KEYS];
     let mut at = places.len() / 2;
     while 0 < at {

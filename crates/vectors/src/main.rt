@@ -5,7 +5,7 @@ mod accounts;
 mod actions;
 mod calls;
 mod instructions;
-mod keys;
+mod key_cases;
 mod numbers;
 mod text;
 
@@ -29,9 +29,9 @@ enum Next {
 // there is such a kind and the payload is long enough for it.
 fn print_read(kind: u8, payload: &[u8]) -> bool {
     match kind {
-        5 => keys::same(payload),
+        5 => key_cases::same(payload),
         6 => {
-            keys::list(payload);
+            key_cases::list(payload);
             true
         }
         10 => {

@@ -11,9 +11,10 @@ use borrow.Author.Needs.{needs}
 use lib.Dec.{ltb}
 use lib.ListN.{length, drop, set}
 use Rattle.key.specs.declared.Key.{Key}
-use Rattle.key.specs.declared.Keys.{Keys}
-use Rattle.key.specs.Key.{sameKey, isAmong, keysIn}
-use Rattle.key.proofs.Searching.{Searched, search-starts, search-room, search-next, search-ended}
+use Rattle.keys.specs.declared.Keys.{Keys}
+use Rattle.key.specs.Key.{sameKey}
+use Rattle.keys.specs.Keys.{isAmong, keysIn}
+use Rattle.keys.proofs.Searching.{Searched, search-starts, search-room, search-next, search-ended}
 use Rattle.mints.specs.Mints.{withMint, withMints, listedMints}
 use Rattle.action.specs.Views.{viewsOf, actionAt, actionsIn}
 use Rattle.mints.proofs.Listing.{Filled, none-filled, filled-next, mint-new, mint-room, mint-same, mints-step, mints-end, mints-none}

@@ -7,8 +7,8 @@ use mathlib.Core.Bool.{Bool, cond}
 use native.Mathlib.Numerals.{add-one}
 use native.Mathlib.Omega.{arith}
 use lib.ListN.{length, getD, length-map}
-use Rattle.key.specs.Key.{keysIn}
-use Rattle.key.proofs.Laws.{length-keys, key-at}
+use Rattle.keys.specs.Keys.{keysIn}
+use Rattle.keys.proofs.Laws.{length-keys, key-at}
 use Rattle.account.specs.Views.{zeroView, recordAt, viewsOf}
 use Rattle.token.specs.Tokens.{isCounted}
 use Rattle.token.proofs.Totals.{laid, partly, none-laid, turns-few, turn-counted, turn-laid, record-laid, all-laid}

@@ -7,7 +7,7 @@ use mathlib.Core.List.{List}
 use native.Mathlib.Numerals.{add-one}
 use native.Mathlib.Omega.{arith}
 use lib.ListN.{length, getD, length-map}
-use Rattle.key.proofs.Searching.{Searched, search-starts, search-room, search-next}
+use Rattle.keys.proofs.Searching.{Searched, search-starts, search-room, search-next}
 use Rattle.account.specs.Views.{recordsIn}
 use Rattle.action.specs.Views.{viewsOf, actionsIn}
 use Rattle.action.proofs.Views.{length-actions}

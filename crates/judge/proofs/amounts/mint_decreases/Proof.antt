@@ -7,8 +7,8 @@ use mathlib.Core.List.{List, []}
 use native.Mathlib.Numerals.{add-one}
 use native.Mathlib.Omega.{arith}
 use lib.ListN.{length, length-map}
-use Rattle.key.specs.Key.{keysIn}
-use Rattle.key.proofs.Laws.{length-keys}
+use Rattle.keys.specs.Keys.{keysIn}
+use Rattle.keys.proofs.Laws.{length-keys}
 use Rattle.account.specs.Views.{recordsIn}
 use Rattle.judge.specs.Views.{decreaseOf}
 use Rattle.judge.proofs.Outflow.{laid, amount-laid, all-laid, balancesOf, decrease-at}

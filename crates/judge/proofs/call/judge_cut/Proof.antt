@@ -14,7 +14,7 @@ use Rattle.mints.specs.Mints.{listedMints}
 use Rattle.action.specs.Views.{actionsIn}
 use Rattle.action.proofs.Views.{length-actions}
 use Rattle.account.specs.Views.{recordsIn}
-use Rattle.key.specs.declared.Keys.{Keys}
+use Rattle.keys.specs.declared.Keys.{Keys}
 use Rattle.judge.specs.Views.{checksFrom}
 use Rattle.judge.proofs.Steps.{no-rules, rules-unchecked, rules-checked, no-views-settled, region-kept, region-written}
 use borrow.Author.Needs.{needs}

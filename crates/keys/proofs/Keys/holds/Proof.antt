@@ -1,4 +1,4 @@
--- `key::Keys::holds` meets its contract. The loop's invariant: the key is among those from `i` on where it is among them all.
+-- `keys::Keys::holds` meets its contract. The loop's invariant: the key is among those from `i` on where it is among them all.
 -- Assumes nothing.
 use Prim.Native.Nat.{_-_, _≤_}
 use mathlib.Core.Path.{_≡_, refl, sym, _∙_}
@@ -6,10 +6,10 @@ use native.Mathlib.Numerals.{add-one}
 use native.Mathlib.Omega.{arith}
 use borrow.Author.Needs.{needs}
 use lib.ListN.{length, drop, length-map}
-use Rattle.key.specs.Key.{isAmong, keysIn}
-use Rattle.key.proofs.Laws.{among-found, among-passed, among-end}
-use Rattle.key.proofs.Keys.holds.Statement.{statement}
-use Rattle.key.proofs.Keys.holds.Tie as tie
+use Rattle.keys.specs.Keys.{isAmong, keysIn}
+use Rattle.keys.proofs.Laws.{among-found, among-passed, among-end}
+use Rattle.keys.proofs.Keys.holds.Statement.{statement}
+use Rattle.keys.proofs.Keys.holds.Tie as tie
 
 abbrev Inv-loop : tie.InvT-loop
 Inv-loop key self count i₀ i = (i ≤ 16) × (isAmong key (drop i (keysIn self)) ≡ isAmong key (keysIn self))

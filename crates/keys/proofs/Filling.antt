@@ -6,16 +6,10 @@ use mathlib.Core.Bool.{true, false, and-false}
 use mathlib.Core.List.{List}
 use borrow.Author.Tests.{eq-eqb, ne-eqb, lt-ltb, le-ltb}
 use lib.ListN.{length, set}
-use Rattle.key.specs.Key.{isAmong, keysIn, zeroKey, keyFrom, withKey}
-use Rattle.key.specs.declared.Keys.{Keys}
-
-pub key-of-its-length : (part : List ℕ) → length part ≡ 32 → keyFrom part ≡ record { bytes = part }
-unfolding keyFrom
-key-of-its-length part h = rw (eq-eqb _ _ h)
-
-pub key-of-another-length : (part : List ℕ) → (length part ≡ 32 → ⊥) → keyFrom part ≡ zeroKey
-unfolding keyFrom
-key-of-another-length part h = rw (ne-eqb _ _ h)
+use Rattle.key.specs.Key.{keyFrom}
+use Rattle.key.proofs.Laws.{key-of-its-length}
+use Rattle.keys.specs.Keys.{isAmong, keysIn, withKey}
+use Rattle.keys.specs.declared.Keys.{Keys}
 
 module _ (l : Keys) (key : List ℕ) where
   pub with-full : 16 ≤ l .count → withKey l key ≡ l

@@ -1,10 +1,10 @@
--- `key::Key::is_found` meets its contract: among no keys nothing is found.
+-- `keys::is_found` meets its contract: among no keys nothing is found.
 -- Assumes nothing.
 use native.Mathlib.Omega.{arith}
 use borrow.Author.Needs.{needs}
 use borrow.Author.Tests.{lt-ltb, le-ltb}
-use Rattle.key.proofs.Key.is_found.Statement.{statement}
-use Rattle.key.proofs.Key.is_found.Tie as tie
+use Rattle.keys.proofs.is_found.Statement.{statement}
+use Rattle.keys.proofs.is_found.Tie as tie
 
 returns : tie.Need-returns
 returns c = rw (le-ltb 0 (c .before .before .args .count) (omega arith))

@@ -1,7 +1,7 @@
 // Keys: comparing two, and a list of them.
 use crate::text;
 use key::KEY_LENGTH;
-use key::Keys;
+use keys::Keys;
 
 const LENGTH_SIZE: usize = 4;
 

@@ -1,11 +1,11 @@
--- `key::Keys::with` meets its contract: each test that keeps the list as it is is one of the definition's.
+-- `keys::Keys::with` meets its contract: each test that keeps the list as it is is one of the definition's.
 -- Assumes nothing.
 use mathlib.Core.Path.{sym, _∙_}
 use native.Mathlib.Omega.{arith}
-use Rattle.key.proofs.Filling.{with-full, with-no-key, with-repeat, with-new}
+use Rattle.keys.proofs.Filling.{with-full, with-no-key, with-repeat, with-new}
 use borrow.Author.Needs.{needs}
-use Rattle.key.proofs.Keys.with.Statement.{statement}
-use Rattle.key.proofs.Keys.with.Tie as tie
+use Rattle.keys.proofs.Keys.with.Statement.{statement}
+use Rattle.keys.proofs.Keys.with.Tie as tie
 
 returns : tie.Need-returns
 returns c = sym (with-full _ _ (c .if1 .taken))

@@ -1,10 +1,10 @@
--- `vectors::keys::filled` is safe and ends: what is left of the row falls by a key each turn.
+-- `vectors::key_cases::filled` is safe and ends: what is left of the row falls by a key each turn.
 -- Assumes nothing.
 use Prim.Native.Nat.{_≤_}
 use lib.ListN.{length}
 use borrow.Author.Needs.{needs}
-use Rattle.vectors.proofs.keys.filled.Statement.{statement}
-use Rattle.vectors.proofs.keys.filled.Tie as tie
+use Rattle.vectors.proofs.key_cases.filled.Statement.{statement}
+use Rattle.vectors.proofs.key_cases.filled.Tie as tie
 
 abbrev Inv-loop : tie.InvT-loop
 Inv-loop row keys₀ rest₀ keys rest = rest ≤ length row

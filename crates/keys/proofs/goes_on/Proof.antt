@@ -1,4 +1,4 @@
--- `key::Key::goes_on` meets its contract: no search goes on past the last key, nor past the one that is looked for.
+-- `keys::goes_on` meets its contract: no search goes on past the last key, nor past the one that is looked for.
 -- Assumes nothing.
 use Prim.Native.Nat.{_+_}
 use mathlib.Core.Path.{ap}
@@ -6,8 +6,8 @@ use mathlib.Core.Bool.{not}
 use native.Mathlib.Omega.{arith}
 use borrow.Author.Needs.{needs}
 use borrow.Author.Tests.{lt-ltb, le-ltb}
-use Rattle.key.proofs.Key.goes_on.Statement.{statement}
-use Rattle.key.proofs.Key.goes_on.Tie as tie
+use Rattle.keys.proofs.goes_on.Statement.{statement}
+use Rattle.keys.proofs.goes_on.Tie as tie
 
 returns : tie.Need-returns
 returns c = let args = c .before .before .args in rw (le-ltb (args .at + 1) (args .count) (omega arith))

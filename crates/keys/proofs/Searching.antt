@@ -9,10 +9,11 @@ use native.Mathlib.Omega.{arith}
 use borrow.Author.Tests.{lt-ltb, ltb-true, ltb-false}
 use lib.Dec.{ltb}
 use lib.ListN.{length, getD, drop}
-use Rattle.key.specs.Key.{sameKey, isAmong, keysIn}
+use Rattle.key.specs.Key.{sameKey}
+use Rattle.keys.specs.Keys.{isAmong, keysIn}
 use Rattle.key.specs.declared.Key.{Key}
-use Rattle.key.specs.declared.Keys.{Keys}
-use Rattle.key.proofs.Laws.{among-found, among-passed, among-end}
+use Rattle.keys.specs.declared.Keys.{Keys}
+use Rattle.keys.proofs.Laws.{among-found, among-passed, among-end}
 
 -- how far a search among the first n keys is: the key at hand, and that none before it is the one
 pub record Searched (m : Keys) (key : List ℕ) (n at : ℕ) (k : Key) : Type 0 where

@@ -1,0 +1,3 @@
+pub mod Filling
+pub mod Laws
+pub mod Searching
