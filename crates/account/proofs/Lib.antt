@@ -1,9 +1,3 @@
-pub mod Refusing
-pub mod Parts
-pub mod Cutting
 pub mod InRow
-pub mod Parsing
-pub mod Given
+pub mod Parts
 pub mod Views
-pub mod Gluing
-pub mod Theorems

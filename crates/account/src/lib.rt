@@ -1,15 +1,12 @@
-// The account table: cutting it into views of its records, and what a view names. Any bytes get an
-// answer.
-pub mod fields;
-pub mod parse;
-
-use answer::Answer;
-
-pub const TABLE_HEADER_SIZE: usize = 2;
+// A record of an account table: the parts of the one that a view names, each as it lies in the table, and
+// rows of views. Any bytes get an answer.
+use key::KEY_LENGTH;
+ghost use mathlib.Core.Path.{_≡_};
+ghost use Prim.Native.Nat.{_*_};
+ghost use lib.ListN.{getD, take, drop};
+ghost use Rattle.account.specs.Views.{partAt, recordAt, viewsOf, zeroView};
 
 pub const RECORD_HEADER_SIZE: usize = 68;
-
-pub const MAX_RECORDS: usize = 64;
 
 // A record of a table: where it starts and how long its data is.
 pub struct RecordView {
@@ -17,10 +14,71 @@ pub struct RecordView {
     pub len: usize,
 }
 
-// A table's records in order, two numbers for each: where it starts and how long its data is; zeros
-// past the count, and on a refusal everywhere. A row of numbers is lent where views would be copied.
-pub struct Places {
-    pub answer: Answer,
-    pub list: [usize; 128],
-    pub count: usize,
+const OWNER_PLACE: usize = 32;
+
+// The bytes from `at` on, none where it is past the end.
+fn from(bytes: &[u8], at: usize) -> &[u8]
+    ensures { λ r. ⌜ now r ≡ drop at (now (bytes .entry)) ⌝ }
+{
+    if bytes.len() < at {
+        return &bytes[..0];
+    }
+    &bytes[at..]
+}
+
+// The `len` bytes at `at`, or the empty part where they are not all there.
+fn part(bytes: &[u8], at: usize, len: usize) -> &[u8]
+    ensures { λ r. ⌜ now r ≡ partAt (now (bytes .entry)) at len ⌝ }
+{
+    if bytes.len() < len {
+        return &bytes[..0];
+    }
+    if bytes.len() - len < at {
+        return &bytes[..0];
+    }
+    &bytes[at..at + len]
+}
+
+pub fn record_key(table: &[u8], view: RecordView) -> &[u8]
+    ensures { λ r. ⌜ now r ≡ recordAt (now (table .entry)) view .key ⌝ }
+{
+    part(from(table, view.at), 0, KEY_LENGTH)
+}
+
+// The program that owns the record.
+pub fn record_owner(table: &[u8], view: RecordView) -> &[u8]
+    ensures { λ r. ⌜ now r ≡ recordAt (now (table .entry)) view .owner ⌝ }
+{
+    part(from(table, view.at), OWNER_PLACE, KEY_LENGTH)
+}
+
+// The record's data.
+pub fn record_payload(table: &[u8], view: RecordView) -> &[u8]
+    ensures { λ r. ⌜ now r ≡ recordAt (now (table .entry)) view .payload ⌝ }
+{
+    part(from(table, view.at), RECORD_HEADER_SIZE, view.len)
+}
+
+// The view at an index of a row of numbers, the zero view past the last.
+pub fn view_in(places: &[usize], i: usize) -> RecordView
+    ensures { λ r. ⌜ r ≡ getD (viewsOf (now (places .entry))) i zeroView ⌝ }
+{
+    if places.len() / 2 <= i {
+        return RecordView { at: 0, len: 0 };
+    }
+    RecordView {
+        at: places[2 * i],
+        len: places[2 * i + 1],
+    }
+}
+
+// The row of as many views as are counted, or all that there is of it. Its length says how many there
+// are, so no count goes along where it is lent.
+pub fn places_in(list: &[usize], count: usize) -> &[usize]
+    ensures { λ r. ⌜ now r ≡ take (2 * count) (now (list .entry)) ⌝ }
+{
+    if list.len() / 2 < count {
+        return list;
+    }
+    &list[..2 * count]
 }

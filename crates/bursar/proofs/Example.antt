@@ -13,8 +13,8 @@ use Rattle.action.specs.Fields.{isToken, isRecurring, keyOf, amountsOf, changed
 use Rattle.mints.specs.Mints.{isListed}
 use Rattle.creation.specs.Creation.{formOf, allKeep, keeps, bothLists, solRepeats, howOften, mintRepeats, mintAgain, inStoredForm, storedActions, creation}
 use Rattle.compact.specs.Compact.{mostInstructions, byte, front, decodeOne, decodeEach, decode}
-use Rattle.account.specs.Table.{cutTable, cutRecords, firstRecord}
-use Rattle.token.specs.Tokens.{balance}
+use Rattle.table.specs.Table.{cutTable, cutRecords, firstRecord}
+use Rattle.balance.specs.Balance.{balance}
 use Rattle.limit.specs.Limit.{refusalOf, windowOver, base, above, breaks, ruleAnswer, isSol, ofClass, classAnswer, spentChange, isLimit, liveChange, changeOf, settled}
 use Rattle.freeze.specs.Freeze.{allFrozen}
 use Rattle.programs.specs.Programs.{programsAnswer}

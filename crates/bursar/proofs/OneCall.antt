@@ -22,7 +22,7 @@ use Rattle.creation.specs.Creation.{keeps, allKeep, storedActions}
 use Rattle.action.proofs.Changing.{Regular, AllRegular, changed-kind, changed-key, mint-there, window-kept}
 use Rattle.creation.proofs.Keeping.{window-kept as windowed-is}
 use Rattle.creation.proofs.Theorems.{stored-is-formed, stored-is-regular}
-use Rattle.token.specs.Tokens.{balance}
+use Rattle.balance.specs.Balance.{balance}
 use Rattle.limit.specs.Limit.{Charge, breaks, isLimit, settled}
 use Rattle.limit.proofs.Taking.{counts, EachKept, Goes, on, anew, left-and-taken, limit-kept, window-goes}
 use Rattle.judge.specs.Judge.{Call, recordsBefore, recordsAfter, decrease, amountFor, charged, actionsOf, judged, regionAfter}

@@ -35,14 +35,16 @@ use Rattle.compact.specs.declared.Programs.{Programs}
 use Rattle.compact.specs.declared.Range.{Range}
 use Rattle.encoding.specs.Encoding.{outputAfter, writing}
 use Rattle.encoding.specs.declared.Written.{Written}
-use Rattle.account.specs.Table.{cutTable}
-use Rattle.account.specs.Views.{placesOf, recordAt, recordsIn, viewsOf as account-viewsOf, zeroView as account-zeroView}
-use Rattle.account.specs.declared.Places.{Places}
+use Rattle.account.specs.Views.{recordAt, recordsIn, viewsOf as account-viewsOf, zeroView as account-zeroView}
 use Rattle.account.specs.declared.RecordView.{RecordView}
+use Rattle.table.specs.Table.{cutTable}
+use Rattle.table.specs.Views.{placesOf}
+use Rattle.table.specs.declared.Places.{Places}
 use Rattle.lookup.specs.Indexes.{keyAmong, keyAt, resolving}
-use Rattle.token.specs.Tokens.{balance as balanceOf, isCounted, isTokenAccount, mintOf}
-use Rattle.token.specs.Views.{sumsOf}
-use Rattle.token.specs.declared.Sums.{Sums}
+use Rattle.token.specs.Tokens.{amountOf, isCounted, isTokenAccount, mintOf}
+use Rattle.balance.specs.Balance.{balance as balanceOf}
+use Rattle.balance.specs.Views.{sumsOf}
+use Rattle.balance.specs.declared.Sums.{Sums}
 use Rattle.limit.specs.Limit.{changeOf, classAnswer, ruleAnswer}
 use Rattle.limit.specs.Views.{chargesAt, settledAt}
 use Rattle.programs.specs.Programs.{programsAnswer}
@@ -326,35 +328,37 @@ encoding-serialize-compact-instructions _ _ _ _ _ p q = one-outcome (both p) (bo
 
 -- ---- account
 
--- account::fields::record_key
-pub account-fields-record-key : (table : List ℕ) (view : RecordView)
+-- account::record_key
+pub account-record-key : (table : List ℕ) (view : RecordView)
     → OneOutcome (λ (r : List ℕ). r ≡ recordAt table view .key)
-account-fields-record-key _ _ _ _ p q = one-outcome p q
+account-record-key _ _ _ _ p q = one-outcome p q
 
--- account::fields::record_owner
-pub account-fields-record-owner : (table : List ℕ) (view : RecordView)
+-- account::record_owner
+pub account-record-owner : (table : List ℕ) (view : RecordView)
     → OneOutcome (λ (r : List ℕ). r ≡ recordAt table view .owner)
-account-fields-record-owner _ _ _ _ p q = one-outcome p q
+account-record-owner _ _ _ _ p q = one-outcome p q
 
--- account::fields::record_payload
-pub account-fields-record-payload : (table : List ℕ) (view : RecordView)
+-- account::record_payload
+pub account-record-payload : (table : List ℕ) (view : RecordView)
     → OneOutcome (λ (r : List ℕ). r ≡ recordAt table view .payload)
-account-fields-record-payload _ _ _ _ p q = one-outcome p q
+account-record-payload _ _ _ _ p q = one-outcome p q
 
--- account::fields::view_in
-pub account-fields-view-in : (places : List ℕ) (i : ℕ)
+-- account::view_in
+pub account-view-in : (places : List ℕ) (i : ℕ)
     → OneOutcome (λ (r : RecordView). r ≡ getD (account-viewsOf places) i account-zeroView)
-account-fields-view-in _ _ _ _ p q = one-outcome p q
+account-view-in _ _ _ _ p q = one-outcome p q
 
--- account::fields::places_in
-pub account-fields-places-in : (list : List ℕ) (count : ℕ)
+-- account::places_in
+pub account-places-in : (list : List ℕ) (count : ℕ)
     → OneOutcome (λ (r : List ℕ). r ≡ take (2 * count) list)
-account-fields-places-in _ _ _ _ p q = one-outcome p q
+account-places-in _ _ _ _ p q = one-outcome p q
 
--- account::parse::cut_places
-pub account-parse-cut-places : (table : List ℕ)
+-- ---- table
+
+-- table::cut_places
+pub table-cut-places : (table : List ℕ)
     → OneOutcome (λ (r : Places). r ≡ placesOf (cutTable table))
-account-parse-cut-places _ _ _ p q = one-outcome p q
+table-cut-places _ _ _ p q = one-outcome p q
 
 -- ---- lookup
 
@@ -390,15 +394,22 @@ pub token-is-counted : (table : List ℕ) (view : RecordView) (vault : List ℕ)
     → OneOutcome (λ (r : Bool). r ≡ isCounted vault (recordAt table view))
 token-is-counted _ _ _ _ _ p q = one-outcome p q
 
--- token::balance
-pub token-balance : (table places vault mint : List ℕ)
-    → OneOutcome (λ (r : ℕ). r ≡ balanceOf vault mint (recordsIn table places))
-token-balance _ _ _ _ _ _ p q = one-outcome p q
+-- token::amount_of
+pub token-amount-of : (table : List ℕ) (view : RecordView)
+    → OneOutcome (λ (r : ℕ). r ≡ amountOf (recordAt table view))
+token-amount-of _ _ _ _ p q = one-outcome p q
 
--- token::balances
-pub token-balances : (table places vault : List ℕ) (mints : Keys)
+-- ---- balance
+
+-- balance::balance
+pub balance-balance : (table places vault mint : List ℕ)
+    → OneOutcome (λ (r : ℕ). r ≡ balanceOf vault mint (recordsIn table places))
+balance-balance _ _ _ _ _ _ p q = one-outcome p q
+
+-- balance::balances
+pub balance-balances : (table places vault : List ℕ) (mints : Keys)
     → OneOutcome (λ (r : Sums). r ≡ sumsOf (map (λ (m : List ℕ). balanceOf vault m (recordsIn table places)) (keysIn mints)))
-token-balances _ _ _ _ _ _ p q = one-outcome p q
+balance-balances _ _ _ _ _ _ p q = one-outcome p q
 
 -- ---- limit
 

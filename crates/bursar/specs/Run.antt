@@ -7,7 +7,7 @@ use mathlib.Core.List.{List, [], _∷_}
 use Rattle.answer.specs.Numbers.{accepts}
 use Rattle.number.specs.Number.{Bytes, highest}
 use Rattle.creation.specs.Creation.{creation}
-use Rattle.token.specs.Tokens.{balance}
+use Rattle.balance.specs.Balance.{balance}
 use Rattle.judge.specs.Judge.{Call, recordsBefore, recordsAfter, decrease, judged, regionAfter}
 
 -- a region, as bytes, that creation accepted

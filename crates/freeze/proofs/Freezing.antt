@@ -14,7 +14,7 @@ use Rattle.key.specs.Key.{sameKey, sameBytes}
 use Rattle.keys.specs.Keys.{isAmong, keysIn}
 use Rattle.keys.proofs.Laws.{keys-step, keys-end}
 use Rattle.account.specs.declared.RecordView.{RecordView}
-use Rattle.account.specs.Table.{Record}
+use Rattle.account.specs.Record.{Record}
 use Rattle.token.specs.Tokens.{isTokenAccount, isCounted, mintOf}
 use Rattle.account.specs.Views.{recordAt, viewsOf, recordsIn, zeroView}
 use Rattle.account.proofs.Views.{records-step, length-records}

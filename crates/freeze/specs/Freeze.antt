@@ -6,7 +6,7 @@ use mathlib.Core.List.{List, [], _∷_}
 use mathlib.Core.Option.{Option, none, some}
 use lib.ListN.{take, drop}
 use Rattle.key.specs.Key.{sameKey, sameBytes}
-use Rattle.account.specs.Table.{Record}
+use Rattle.account.specs.Record.{Record}
 use Rattle.token.specs.Tokens.{isTokenAccount, isCounted, mintOf}
 
 -- the first record with a key

@@ -1,8 +1,8 @@
 // Step 6: the authorities of the vault's token accounts of listed mints stay as they were.
 use account::RecordView;
-use account::fields::record_key;
-use account::fields::record_payload;
-use account::fields::view_in;
+use account::record_key;
+use account::record_payload;
+use account::view_in;
 use key::KEY_LENGTH;
 use key::Key;
 use keys::Keys;

@@ -15,8 +15,8 @@ use Rattle.creation.proofs.NamedValues.{as-named as creation-as-named}
 use Rattle.compact.specs.Compact.{mostInstructions, byte, front, decodeOne, decodeEach, decode}
 use Rattle.compact.specs.NamedValues.{namedValues as compactValues}
 use Rattle.compact.proofs.NamedValues.{as-named as compact-as-named}
-use Rattle.account.specs.Table.{cutTable, cutRecords, firstRecord}
-use Rattle.token.specs.Tokens.{balance}
+use Rattle.table.specs.Table.{cutTable, cutRecords, firstRecord}
+use Rattle.balance.specs.Balance.{balance}
 use Rattle.limit.specs.Limit.{refusalOf, windowOver, base, above, breaks, ruleAnswer, isSol, ofClass, classAnswer, spentChange, isLimit, liveChange, changeOf, settled}
 use Rattle.freeze.specs.Freeze.{allFrozen}
 use Rattle.programs.specs.Programs.{programsAnswer}

@@ -22,10 +22,10 @@ use Rattle.number.specs.Number.{flooredDifference}
 use Rattle.action.specs.declared.ActionView.{ActionView}
 use Rattle.action.specs.Fields.{isToken, keyOf}
 use Rattle.action.specs.Views.{viewsOf, zeroView, actionAt, actionsIn}
-use Rattle.account.specs.Table.{Record}
-use Rattle.token.specs.declared.Sums.{Sums}
-use Rattle.token.specs.Tokens.{balance}
-use Rattle.token.specs.Views.{sumsOf}
+use Rattle.account.specs.Record.{Record}
+use Rattle.balance.specs.declared.Sums.{Sums}
+use Rattle.balance.specs.Balance.{balance}
+use Rattle.balance.specs.Views.{sumsOf}
 use Rattle.judge.specs.Judge.{decrease}
 use Rattle.judge.specs.Views.{decreaseOf, solAmount, amountFrom}
 

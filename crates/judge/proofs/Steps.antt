@@ -35,11 +35,13 @@ use Rattle.compact.specs.Compact.{Instruction, Read, decode, reading, placed, p
 use Rattle.compact.proofs.Indexes.{programs-counted, programs-answer}
 use Rattle.compact.proofs.Places.{entries-held}
 use Rattle.compact.proofs.Reading.{reading-of, outcome}
-use Rattle.account.specs.declared.Places.{Places}
-use Rattle.account.specs.Table.{Record, cutTable, recordsOf}
-use Rattle.account.specs.Views.{recordsIn, placesOf}
-use Rattle.account.proofs.Views.{records-of-places}
-use Rattle.token.specs.Views.{sumsOf}
+use Rattle.table.specs.declared.Places.{Places}
+use Rattle.account.specs.Record.{Record}
+use Rattle.table.specs.Table.{cutTable, recordsOf}
+use Rattle.account.specs.Views.{recordsIn}
+use Rattle.table.specs.Views.{placesOf}
+use Rattle.table.proofs.Views.{records-of-places}
+use Rattle.balance.specs.Views.{sumsOf}
 use Rattle.limit.specs.Limit.{Charge, classAnswer, settled}
 use Rattle.limit.specs.Views.{charges, chargesAt, settledViews, settledAt}
 use Rattle.limit.proofs.Settling.{settle-glued}

@@ -22,9 +22,10 @@ use Rattle.creation.specs.Creation.{howOften, kindsOf, storedActions}
 use Rattle.action.proofs.Changing.{bytes-glued}
 use Rattle.creation.proofs.Theorems.{stored-is-formed, stored-is-regular, glued-is-stored, formed-changed, regular-changed}
 use Rattle.compact.specs.Compact.{Instruction, Read, decode}
-use Rattle.account.specs.Table.{Record, cutTable}
+use Rattle.account.specs.Record.{Record}
+use Rattle.table.specs.Table.{cutTable}
 use Rattle.lookup.specs.Indexes.{keyAmong}
-use Rattle.account.proofs.Theorems.{every-refusal-of-a-table-is-13}
+use Rattle.table.proofs.Theorems.{every-refusal-of-a-table-is-13}
 use Rattle.limit.specs.Limit.{Charge, refusalOf, breaks, ruleAnswer, ofClass, classAnswer, changeOf, settled}
 use Rattle.limit.proofs.Taking.{EachKept, each-kept}
 use Rattle.freeze.specs.Freeze.{allFrozen}

@@ -16,8 +16,9 @@ use Rattle.action.specs.Fields.{isToken, keyOf}
 use Rattle.mints.specs.Mints.{isListed}
 use Rattle.creation.specs.Creation.{storedActions}
 use Rattle.compact.specs.Compact.{Instruction, Read, decode}
-use Rattle.account.specs.Table.{Record, cutTable, recordsOf}
-use Rattle.token.specs.Tokens.{balance}
+use Rattle.account.specs.Record.{Record}
+use Rattle.table.specs.Table.{cutTable, recordsOf}
+use Rattle.balance.specs.Balance.{balance}
 use Rattle.limit.specs.Limit.{Charge, classAnswer, settled}
 use Rattle.programs.specs.Programs.{programsAnswer}
 use Rattle.freeze.specs.Freeze.{allFrozen}

@@ -11,8 +11,8 @@ use Rattle.keys.specs.Keys.{isAmong, keysIn}
 use Rattle.action.specs.Region.{Action, solMaxPerTx}
 use Rattle.action.specs.Fields.{isToken, keyOf}
 use Rattle.mints.specs.Mints.{listedMints}
-use Rattle.account.specs.Table.{Record}
-use Rattle.token.specs.Tokens.{balance}
+use Rattle.account.specs.Record.{Record}
+use Rattle.balance.specs.Balance.{balance}
 use Rattle.limit.specs.Limit.{Charge, classAnswer}
 use Rattle.freeze.specs.Freeze.{allFrozen}
 use Rattle.judge.specs.Judge.{decrease}

@@ -1,7 +1,6 @@
 // The nine steps.
 use crate::amounts::amounts;
-use account::fields::places_in;
-use account::parse::cut_places;
+use account::places_in;
 use action::parse::parse_actions;
 use action::row::actions_in;
 use action::row::how_many;
@@ -20,14 +19,15 @@ use limit::settle;
 use mints::listed_mints;
 use number::floored_difference;
 use programs::evaluate_pre_actions;
+use table::cut_places;
 ghost use mathlib.Core.Path.{_≡_};
 ghost use mathlib.Core.Bool.{true, cond};
 ghost use mathlib.Core.List.{map};
 ghost use lib.ListN.{length};
 ghost use Rattle.answer.specs.Numbers.{accepts};
-ghost use Rattle.account.specs.Table.{cutTable, recordsOf};
+ghost use Rattle.table.specs.Table.{cutTable, recordsOf};
 ghost use Rattle.account.specs.Views.{recordsIn};
-ghost use Rattle.token.specs.Views.{sumsOf};
+ghost use Rattle.balance.specs.Views.{sumsOf};
 ghost use Rattle.action.specs.Views.{actionsIn};
 ghost use Rattle.limit.specs.Views.{chargesAt, settledAt};
 ghost use Rattle.judge.specs.Judge.{callOf, answerOf, judged, regionAfter};

@@ -18,8 +18,9 @@ use Rattle.number.specs.Number.{number}
 use Rattle.compact.specs.declared.Entry.{Entry}
 use Rattle.compact.specs.Compact.{within, part}
 use Rattle.compact.proofs.Parts.{length-part}
-use Rattle.account.specs.Table.{Record, cutRecords, cutTable, recordsOf}
-use Rattle.account.proofs.Given.{none-given, one-given, table-given, table-refusal}
+use Rattle.account.specs.Record.{Record}
+use Rattle.table.specs.Table.{cutRecords, cutTable, recordsOf}
+use Rattle.table.proofs.Given.{none-given, one-given, table-given, table-refusal}
 use Rattle.lookup.specs.Indexes.{allBelow, resolvable, resolving, keyAmong, keyAt}
 use Rattle.lookup.proofs.Lookups.{key-past, within-ends}
 

@@ -10,7 +10,8 @@ use Rattle.answer.specs.Numbers.{refuseIf, invalidInstructionData}
 use Rattle.answer.specs.Refusable.{given, refused}
 use Rattle.compact.specs.declared.Entry.{Entry}
 use Rattle.compact.specs.Compact.{within, part}
-use Rattle.account.specs.Table.{Record, cutTable, recordsOf}
+use Rattle.account.specs.Record.{Record}
+use Rattle.table.specs.Table.{cutTable, recordsOf}
 
 -- whether each of some indexes is below a count
 unfoldable pub allBelow : ℕ → List ℕ → Bool

@@ -1,10 +1,12 @@
 // Indexes into a table: the key at one, and resolving those of an instruction.
-use account::fields;
-use account::parse;
+use account::places_in;
+use account::record_key;
+use account::view_in;
 use answer::ACCEPTED;
 use answer::Answer;
 use answer::INVALID_INSTRUCTION_DATA;
 use compact::Entry;
+use table::cut_places;
 ghost use mathlib.Core.Path.{_≡_};
 ghost use Rattle.account.specs.Views.{recordsIn};
 ghost use Rattle.lookup.specs.Indexes.{allBelow, resolvable, resolving, keyAmong, keyAt};
@@ -16,15 +18,15 @@ pub fn key_at<'a>(table: &'a [u8], places: &[usize], index: usize) -> &'a [u8]
     if places.len() / 2 <= index {
         return &table[..0];
     }
-    fields::record_key(table, fields::view_in(places, index))
+    record_key(table, view_in(places, index))
 }
 
 // The key at an index of a table, or the empty part for a bad index or table.
 pub fn lookup(table: &[u8], index: usize) -> &[u8]
     ensures { λ r. ⌜ now r ≡ keyAt (now (table .entry)) index ⌝ }
 {
-    let cut = parse::cut_places(table);
-    key_at(table, fields::places_in(&cut.list, cut.count), index)
+    let cut = cut_places(table);
+    key_at(table, places_in(&cut.list, cut.count), index)
 }
 
 fn all_below(indexes: &[u8], count: usize) -> bool
@@ -64,7 +66,7 @@ fn is_resolvable(count: usize, source: &[u8], entry: Entry) -> bool
 pub fn resolve(table: &[u8], entry: Entry, source: &[u8]) -> Answer
     ensures { λ r. ⌜ r ≡ resolving (now (table .entry)) entry (now (source .entry)) ⌝ }
 {
-    let cut = parse::cut_places(table);
+    let cut = cut_places(table);
     if !cut.answer.accepts() {
         return cut.answer;
     }

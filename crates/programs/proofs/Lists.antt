@@ -19,7 +19,7 @@ use Rattle.action.specs.Views.{viewsOf, zeroView, actionAt, actionsIn, kindsIn}
 use Rattle.creation.specs.Creation.{howOften, kindsOf}
 use Rattle.action.proofs.Views.{actions-step, length-actions}
 use Rattle.creation.proofs.Scanning.{kinds-of-actions}
-use Rattle.account.specs.Table.{Record}
+use Rattle.account.specs.Record.{Record}
 use Rattle.lookup.specs.Indexes.{keyAmong}
 use Rattle.programs.specs.Programs.{inLiveList, listsAnswer, programAnswer, programsAnswer}
 

@@ -11,7 +11,7 @@ use Rattle.key.specs.Key.{sameKey}
 use Rattle.action.specs.Region.{Action, expired, programWhitelist, programBlacklist}
 use Rattle.action.specs.Fields.{keyOf}
 use Rattle.creation.specs.Creation.{howOften, kindsOf}
-use Rattle.account.specs.Table.{Record}
+use Rattle.account.specs.Record.{Record}
 use Rattle.lookup.specs.Indexes.{keyAmong}
 
 -- whether a live entry of a list, whitelist or blacklist, has a key

@@ -1,6 +1,6 @@
 // Step 5: each instruction's program against the lists.
-use account::fields::record_key;
-use account::fields::view_in;
+use account::record_key;
+use account::view_in;
 use action::ActionView;
 use action::PROGRAM_BLACKLIST;
 use action::PROGRAM_WHITELIST;

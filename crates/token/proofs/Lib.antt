@@ -1,3 +1,2 @@
 pub mod Counting
 pub mod Theorems
-pub mod Totals

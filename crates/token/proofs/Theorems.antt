@@ -1,15 +1,13 @@
--- What is promised of token accounts and balances, each as one sentence.
+-- What is promised of token accounts, each as one sentence.
 -- Assumes nothing.
-use mathlib.Core.Path.{_≡_, refl, _∙_}
-use mathlib.Core.Bool.{true, false, and-eq-true-iff}
-use mathlib.Core.List.{List, _∷_, _++_, List·Permᴰ, List·Permᴰ·nil, List·Permᴰ·cons, List·Permᴰ·swap, List·Permᴰ·trans}
-use Prim.Native.Nat.{ℕ, _+_, _≤_}
-use native.Mathlib.Omega.{arith}
+use mathlib.Core.Path.{_≡_}
+use mathlib.Core.Bool.{true, and-eq-true-iff}
+use mathlib.Core.List.{List}
+use Prim.Native.Nat.{ℕ, _≤_}
 use lib.ListN.{length}
-use Rattle.number.specs.Number.{cappedSum, highest}
-use Rattle.account.specs.Table.{Record}
-use Rattle.token.specs.Tokens.{isTokenAccount, isCounted, share, holdings, balance, tokenAccountLength}
-use Rattle.token.proofs.Counting.{token-account-long, holdings-append}
+use Rattle.account.specs.Record.{Record}
+use Rattle.token.specs.Tokens.{isTokenAccount, isCounted, tokenAccountLength}
+use Rattle.token.proofs.Counting.{token-account-long}
 
 -- a token account has at least 165 bytes of data
 pub a-token-account-has-165-bytes : (r : Record) → isTokenAccount r ≡ true → tokenAccountLength ≤ length (r .payload)
@@ -19,31 +17,3 @@ a-token-account-has-165-bytes r e = token-account-long r e
 pub a-counted-record-has-165-bytes : (vault : List ℕ) (r : Record) → isCounted vault r ≡ true → tokenAccountLength ≤ length (r .payload)
 unfolding isCounted
 a-counted-record-has-165-bytes vault r e = token-account-long r (and-eq-true-iff (isTokenAccount r) _ .0 e .0)
-
-module _ (vault mint : List ℕ) where
-  -- the balance of two tables' records one after the other is the capped sum of theirs
-  pub balance-append : (l m : List Record) → balance vault mint (l ++ m) ≡ cappedSum (balance vault mint l) (balance vault mint m)
-  unfolding balance cappedSum
-  balance-append l m = rw (holdings-append vault mint l m) (omega arith)
-
-  holdings-order : {l m : List Record} → List·Permᴰ l m → holdings vault mint l ≡ holdings vault mint m
-  unfolding holdings
-  holdings-order List·Permᴰ·nil = refl
-  holdings-order (List·Permᴰ·cons e d) = rw (e, holdings-order d)
-  holdings-order (List·Permᴰ·swap p q) = rw (p, q) (omega arith)
-  holdings-order (List·Permᴰ·trans d e) = holdings-order d ∙ holdings-order e
-
-  -- the order of records does not matter
-  pub the-order-of-records-does-not-matter : {l m : List Record} → List·Permᴰ l m → balance vault mint l ≡ balance vault mint m
-  unfolding balance
-  the-order-of-records-does-not-matter d = rw (holdings-order d)
-
-  -- a record that is not counted adds nothing
-  pub a-record-not-counted-adds-nothing : (r : Record) (l : List Record) → isCounted vault r ≡ false → balance vault mint (r ∷ l) ≡ balance vault mint l
-  unfolding balance holdings share
-  a-record-not-counted-adds-nothing r l e = rw e (omega arith)
-
-  -- a balance is at most 2^64 - 1
-  pub a-balance-is-capped : (l : List Record) → balance vault mint l ≤ highest
-  unfolding balance
-  a-balance-is-capped l = omega arith

@@ -1,13 +1,13 @@
--- Token accounts: which records are counted, and a mint's balance over them.
+-- Token accounts: which records are counted, and their mint, holder and amount.
 -- Assumes nothing.
-use Prim.Native.Nat.{ℕ, _+_, min}
-use mathlib.Core.Bool.{Bool, cond, _&&_, _||_}
+use Prim.Native.Nat.{ℕ}
+use mathlib.Core.Bool.{Bool, _&&_, _||_}
 use mathlib.Core.List.{List, [], _∷_}
 use lib.Dec.{leb}
 use lib.ListN.{length, take, drop}
 use Rattle.key.specs.Key.{sameKey}
-use Rattle.number.specs.Number.{numberAt, highest}
-use Rattle.account.specs.Table.{Record}
+use Rattle.number.specs.Number.{numberAt}
+use Rattle.account.specs.Record.{Record}
 
 -- the two token programs
 abbrev pub splToken : List ℕ
@@ -45,19 +45,3 @@ amountOf r = numberAt 8 (r .payload) 64
 unfoldable pub isCounted : List ℕ → Record → Bool
 unfolding isTokenAccount
 isCounted vault r = isTokenAccount r && sameKey (holderOf r) vault
-
--- what a record adds to a mint's balance
-unfoldable pub share : List ℕ → List ℕ → Record → ℕ
-unfolding isCounted
-share vault mint r = cond (isCounted vault r && sameKey (mintOf r) mint) (amountOf r) 0
-
--- what all counted accounts of a mint hold together
-unfoldable pub holdings : List ℕ → List ℕ → List Record → ℕ
-unfolding share
-holdings vault mint [] = 0
-holdings vault mint (r ∷ l) = share vault mint r + holdings vault mint l
-
--- a mint's balance
-unfoldable pub balance : List ℕ → List ℕ → List Record → ℕ
-unfolding holdings
-balance vault mint l = min (holdings vault mint l) highest

@@ -1,36 +1,20 @@
-// Token accounts: which records are counted, and a mint's balance over them.
+// Token accounts: which records are counted, and their mint and amount.
 mod programs;
 
 use crate::programs::SPL_TOKEN;
 use crate::programs::TOKEN_2022;
 use account::RecordView;
-use account::fields::record_owner;
-use account::fields::record_payload;
-use account::fields::view_in;
-use key::Key;
-use keys::Keys;
-use keys::MAX_KEYS;
+use account::record_owner;
+use account::record_payload;
 ghost use mathlib.Core.Path.{_≡_};
-ghost use mathlib.Core.Bool.{cond};
-ghost use mathlib.Core.List.{List, map};
-ghost use Prim.Native.Nat.{ℕ};
-ghost use Rattle.key.specs.Key.{sameKey};
-ghost use Rattle.keys.specs.Keys.{keysIn};
-ghost use Rattle.number.specs.Number.{cappedSum};
-ghost use Rattle.token.specs.Tokens.{isTokenAccount, mintOf, amountOf, isCounted, share, balance as balanceOf};
-ghost use Rattle.token.specs.Views.{sumsOf};
-ghost use Rattle.account.specs.Views.{recordAt, recordsIn};
+ghost use Rattle.account.specs.Views.{recordAt};
+ghost use Rattle.token.specs.Tokens.{isTokenAccount, mintOf, amountOf, isCounted};
 
 const TOKEN_ACCOUNT_MIN_SIZE: usize = 165;
 
 const TOKEN_OWNER_OFFSET: usize = 32;
 
 const TOKEN_AMOUNT_OFFSET: usize = 64;
-
-// At most sixteen sums, of mints or of actions; zeros past the last.
-pub struct Sums {
-    pub list: [u64; 16],
-}
 
 // Whether a record is a token account. Whoever counts or freezes records asks here; the length is
 // tested first because it is the cheaper test.
@@ -71,83 +55,8 @@ pub fn is_counted(table: &[u8], view: RecordView, vault: &[u8]) -> bool
 }
 
 // The amount of a token account.
-fn amount_of(table: &[u8], view: RecordView) -> u64
+pub fn amount_of(table: &[u8], view: RecordView) -> u64
     ensures { λ r. ⌜ r ≡ amountOf (recordAt (now (table .entry)) view) ⌝ }
 {
     number::read_u64(record_payload(table, view), TOKEN_AMOUNT_OFFSET)
-}
-
-// A total and what a record adds to it. Most records have another mint, so that is tested first.
-fn added(total: u64, table: &[u8], view: RecordView, vault: &[u8], mint: &[u8]) -> u64
-    ensures { λ r. ⌜ r ≡ cappedSum total (share (now (vault .entry)) (now (mint .entry)) (recordAt (now (table .entry)) view)) ⌝ }
-{
-    if !key::same_key(mint_of(table, view), mint) {
-        return total;
-    }
-    if !is_counted(table, view, vault) {
-        return total;
-    }
-    number::capped_sum(total, amount_of(table, view))
-}
-
-// A mint's balance over the records of a row, from the last to the first as the sum is defined. The
-// row is lent: a table by value would be copied for every mint.
-pub fn balance(table: &[u8], places: &[usize], vault: &[u8], mint: &[u8]) -> u64
-    ensures { λ r. ⌜ r ≡ balanceOf (now (vault .entry)) (now (mint .entry)) (recordsIn (now (table .entry)) (now (places .entry))) ⌝ }
-{
-    let mut total = 0;
-    let mut i = places.len() / 2;
-    while 0 < i {
-        i -= 1;
-        let view = view_in(places, i);
-        total = added(total, table, view, vault, mint);
-    }
-    total
-}
-
-// To how many of `n` mints' totals a record may add: to none where it is not counted, which is not
-// asked where there is no mint.
-fn turns_for(table: &[u8], view: RecordView, vault: &[u8], n: usize) -> usize
-    ensures { λ r. ⌜ r ≡ cond (isCounted (now (vault .entry)) (recordAt (now (table .entry)) view)) n 0 ⌝ }
-{
-    if n == 0 {
-        return 0;
-    }
-    if is_counted(table, view, vault) { n } else { 0 }
-}
-
-// A mint's total and the amount of a counted account, which is added where the account's mint is that one.
-fn with_amount(total: u64, k: Key, mint: &[u8], amount: u64) -> u64
-    ensures { λ r. ⌜ r ≡ cond (sameKey (now (mint .entry)) (k .bytes)) (cappedSum total amount) total ⌝ }
-{
-    let bytes = k.bytes;
-    if !key::same_key(mint, &bytes) {
-        return total;
-    }
-    number::capped_sum(total, amount)
-}
-
-// The balance of each listed mint, in one walk over the records: whether a record is counted is asked
-// once, whatever the number of mints.
-pub fn balances(table: &[u8], places: &[usize], vault: &[u8], mints: Keys) -> Sums
-    ensures { λ r. ⌜ r ≡ sumsOf (map (λ (m : List ℕ). balanceOf (now (vault .entry)) m (recordsIn (now (table .entry)) (now (places .entry)))) (keysIn mints)) ⌝ }
-{
-    let n = keys::counted(mints.count);
-    let mut list = [0u64; MAX_KEYS];
-    let mut at = places.len() / 2;
-    while 0 < at {
-        at -= 1;
-        let view = view_in(places, at);
-        let turns = turns_for(table, view, vault, n);
-        let mint = mint_of(table, view);
-        let amount = amount_of(table, view);
-        let mut j = 0;
-        while j < turns {
-            let k = mints.list[j];
-            let total = with_amount(list[j], k, mint, amount);
-            list[j] = total;
-            j += 1;
-        }
-    }
-    Sums { list }
 }

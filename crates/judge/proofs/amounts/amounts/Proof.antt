@@ -11,7 +11,7 @@ use Rattle.keys.proofs.Searching.{Searched, search-starts, search-room, search-
 use Rattle.account.specs.Views.{recordsIn}
 use Rattle.action.specs.Views.{viewsOf, actionsIn}
 use Rattle.action.proofs.Views.{length-actions}
-use Rattle.token.specs.declared.Sums.{Sums}
+use Rattle.balance.specs.declared.Sums.{Sums}
 use Rattle.judge.specs.Views.{amountFrom, decreaseOf}
 use Rattle.judge.proofs.Outflow.{laid, amount-laid, all-laid, action-at, found-decrease}
 use Rattle.judge.proofs.amounts.amounts.Statement.{statement}

@@ -8,8 +8,8 @@ use borrow.Author.Needs.{needs}
 use borrow.Author.Tests.{not-true, not-false}
 use lib.ListN.{length}
 use Rattle.answer.specs.Numbers.{accepts}
-use Rattle.account.specs.declared.Places.{Places}
-use Rattle.account.specs.Table.{cutTable}
+use Rattle.table.specs.declared.Places.{Places}
+use Rattle.table.specs.Table.{cutTable}
 use Rattle.judge.specs.Judge.{Call, callOf, answerOf}
 use Rattle.judge.proofs.Steps.{records-of-row, table-answer, vault-refused, before-refused}
 use Rattle.judge.proofs.call.judge.Statement.{statement}

@@ -11,8 +11,8 @@ use Rattle.answer.specs.Numbers.{accepts}
 use Rattle.number.specs.Number.{Bytes}
 use Rattle.creation.specs.Creation.{storedActions}
 use Rattle.compact.specs.Compact.{decode}
-use Rattle.account.specs.declared.Places.{Places}
-use Rattle.account.specs.Table.{cutTable}
+use Rattle.table.specs.declared.Places.{Places}
+use Rattle.table.specs.Table.{cutTable}
 use Rattle.judge.specs.Judge.{Call, callOf, answerOf, readAnswer}
 use Rattle.judge.proofs.Outflow.{decreased}
 use Rattle.judge.proofs.Steps.{records-named, records-after, table-answer, read-answer, region-answer, programs-read, after-refused, instructions-refused, region-refused, judged-cut}
