@@ -19,7 +19,8 @@ use Rattle.key.proofs.Searching.{Searched}
 use Rattle.number.specs.Number.{flooredDifference}
 use Rattle.action.specs.declared.ActionView.{ActionView}
 use Rattle.action.specs.Fields.{isToken, keyOf}
-use Rattle.action.specs.Views.{viewsOf, zeroView, actionAt, actionsIn}
+use Rattle.action.specs.Views.{zeroView, actionAt}
+use Rattle.region.specs.Views.{viewsOf, actionsIn}
 use Rattle.account.specs.Table.{Record}
 use Rattle.token.specs.declared.Sums.{Sums}
 use Rattle.token.specs.Tokens.{balance}

@@ -1,13 +1,13 @@
 // The amount that each action's rule looks at.
 use action::ActionView;
-use action::MAX_ACTIONS;
 use action::SOL_MAX_PER_TX;
 use action::fields::is_token;
 use action::fields::key_of;
-use action::row::action_in;
-use action::row::how_many;
 use key::Keys;
 use number::floored_difference;
+use region::MAX_ACTIONS;
+use region::row::action_in;
+use region::row::how_many;
 use token::Sums;
 use token::balance;
 use token::balances;
@@ -19,9 +19,10 @@ ghost use lib.ListN.{length};
 ghost use Rattle.key.specs.Key.{keysIn};
 ghost use Rattle.account.specs.Views.{recordsIn};
 ghost use Rattle.token.specs.Views.{sumsOf};
-ghost use Rattle.action.specs.Region.{mostActions};
 ghost use Rattle.action.specs.Fields.{keyOf};
-ghost use Rattle.action.specs.Views.{viewsOf, actionAt, actionsIn};
+ghost use Rattle.action.specs.Views.{actionAt};
+ghost use Rattle.region.specs.Region.{mostActions};
+ghost use Rattle.region.specs.Views.{viewsOf, actionsIn};
 ghost use Rattle.judge.specs.Views.{decreaseOf, solAmount, amountFrom};
 
 // How much the vault's balance of a mint went down.

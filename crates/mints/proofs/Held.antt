@@ -12,7 +12,7 @@ use lib.Seq.{length-take-le}
 use Rattle.key.specs.declared.Keys.{Keys}
 use Rattle.key.specs.Key.{sameKey, isAmong, keysIn, keysOf, zeroKey, withKey}
 use Rattle.key.proofs.Laws.{among-with-one, with-key-in, with-key-next}
-use Rattle.action.specs.Region.{Action, dataLength, sizeAmong}
+use Rattle.action.specs.Action.{Action, dataLength, sizeAmong}
 use Rattle.action.specs.Fields.{isToken, keyOf}
 use Rattle.mints.specs.Mints.{isListed, withMint, withMints, listedMints}
 use Rattle.mints.proofs.Listing.{mint-kept, mint-added, mints-none}

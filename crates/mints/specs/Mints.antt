@@ -5,7 +5,7 @@ use mathlib.Core.Bool.{Bool, false, cond, _&&_, _||_}
 use mathlib.Core.List.{List, [], _∷_}
 use Rattle.key.specs.declared.Keys.{Keys}
 use Rattle.key.specs.Key.{sameKey, keysOf, withKey}
-use Rattle.action.specs.Region.{Action}
+use Rattle.action.specs.Action.{Action}
 use Rattle.action.specs.Fields.{isToken, keyOf}
 
 -- whether a mint is in any token action

@@ -15,7 +15,8 @@ use Rattle.key.specs.declared.Keys.{Keys}
 use Rattle.key.specs.Key.{sameKey, isAmong, keysIn}
 use Rattle.key.proofs.Searching.{Searched, search-starts, search-room, search-next, search-ended}
 use Rattle.mints.specs.Mints.{withMint, withMints, listedMints}
-use Rattle.action.specs.Views.{viewsOf, actionAt, actionsIn}
+use Rattle.action.specs.Views.{actionAt}
+use Rattle.region.specs.Views.{viewsOf, actionsIn}
 use Rattle.mints.proofs.Listing.{Filled, none-filled, filled-next, mint-new, mint-room, mint-same, mints-step, mints-end, mints-none}
 use Rattle.mints.proofs.listed_mints.Statement.{statement}
 use Rattle.mints.proofs.listed_mints.Tie as tie

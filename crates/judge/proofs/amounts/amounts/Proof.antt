@@ -9,8 +9,8 @@ use native.Mathlib.Omega.{arith}
 use lib.ListN.{length, getD, length-map}
 use Rattle.key.proofs.Searching.{Searched, search-starts, search-room, search-next}
 use Rattle.account.specs.Views.{recordsIn}
-use Rattle.action.specs.Views.{viewsOf, actionsIn}
-use Rattle.action.proofs.Views.{length-actions}
+use Rattle.region.specs.Views.{viewsOf, actionsIn}
+use Rattle.region.proofs.Views.{length-actions}
 use Rattle.token.specs.declared.Sums.{Sums}
 use Rattle.judge.specs.Views.{amountFrom, decreaseOf}
 use Rattle.judge.proofs.Outflow.{laid, amount-laid, all-laid, action-at, found-decrease}
