@@ -1,21 +1,21 @@
 -- What a change of an action's amounts keeps: the type, the expiry, the data's length, the mint; and that they stay bytes.
 -- Assumes nothing.
 use mathlib.Core.Path.{_≡_, refl, sym, ap, subst, _∙_}
-use mathlib.Core.Bool.{Bool, true, false, cond, _&&_, and-eq-true-iff}
-use mathlib.Core.List.{List, [], _∷_, _++_}
-use Prim.Native.Nat.{ℕ, zero, suc, _+_, _^_, _<_, _≤_}
+use mathlib.Core.Bool.{true, cond}
+use mathlib.Core.List.{List, [], _∷_}
+use Prim.Native.Nat.{ℕ, _+_, _^_, _<_, _≤_}
 use native.Mathlib.Omega.{arith}
-use borrow.Author.Tests.{eqb-true, leb-true, ltb-true}
-use lib.Dec.{eqb, leb, ltb, lit≤}
+use borrow.Author.Tests.{leb-true}
+use lib.Dec.{leb, lit≤}
 use lib.ListN.{length, take, drop, length-append, length-take, length-drop}
 use lib.Seq.{take-at, drop-at, length-take-le}
-use Rattle.number.specs.Number.{bytesOf, withNumberAt, Bytes}
-use Rattle.number.proofs.Laws.{read-before, read-after, length-with-number, bytes-take, bytes-drop, bytes-append, bytes-with-number, bytesOf-bytes}
+use Rattle.number.specs.Number.{withNumberAt, Bytes}
+use Rattle.number.proofs.Laws.{read-before, read-after, length-with-number, bytes-take, bytes-drop, bytes-append, bytes-with-number}
 use Rattle.action.specs.declared.Change.{Change}
 use Rattle.action.specs.declared.Change.the-variants.{Nothing, Remaining, Spent}
-use Rattle.action.specs.Region.{Action, Typed, types, sizeAmong, dataLength, glueOne, glue}
+use Rattle.action.specs.Action.{Action, dataLength}
 use Rattle.action.specs.Fields.{isToken, isRecurring, keyOf, mintLength, amountsOf, withAmounts, window, changedAmounts, changed}
-use Rattle.action.proofs.Gluing.{Fits, AllFit, no-more, one-more, data-at-most}
+use Rattle.action.proofs.Lengths.{listed-passes}
 
 length-changed-amounts : (change : Change) (amounts : List ℕ) → length (changedAmounts change amounts) ≡ length amounts
 length-changed-amounts Nothing amounts = refl
@@ -71,34 +71,10 @@ module _ (change : Change) (a : Action) where
 abbrev pub least : ℕ → ℕ
 least code = mintLength code + cond (isRecurring code) 32 8
 
--- whether all of some types pass a test of their code and length
-abbrev allPass : (ℕ → ℕ → Bool) → List Typed → Bool
-allPass test [] = true
-allPass test (t ∷ ts) = test (t .code) (t .size) && allPass test ts
-
--- what all listed types pass, a known code passes
-passes-among : (test : ℕ → ℕ → Bool) (code : ℕ) (ts : List Typed) → allPass test ts ≡ true → 0 < sizeAmong code ts
-    → test code (sizeAmong code ts) ≡ true
-unfolding sizeAmong
-passes-among test code [] e some = absurd (let z : _≡_ {A = ℕ} 0 1 = omega arith in omega arith)
-passes-among test code (t ∷ ts) e some =
-    let (here, after) = and-eq-true-iff (test (t .code) (t .size)) _ .0 e in
-    go here (passes-among test code ts after) (eqb code (t .code)) refl some
-  where
-    go : test (t .code) (t .size) ≡ true → (0 < sizeAmong code ts → test code (sizeAmong code ts) ≡ true) → (is : Bool) → eqb code (t .code) ≡ is
-        → 0 < cond is (t .size) (sizeAmong code ts) → test code (cond is (t .size) (sizeAmong code ts)) ≡ true
-    go here after true same h = subst (λ (c : ℕ). test c (t .size) ≡ true) (sym (eqb-true code (t .code) same)) here
-    go here after false other h = after h
-
 -- a known code's data is no shorter than its least
 least-listed : (code : ℕ) → 0 < dataLength code → least code ≤ dataLength code
-unfolding dataLength isToken isRecurring
-least-listed code some = leb-true _ _ (passes-among (λ (c size : ℕ). leb (least c) size) code types refl some)
-
--- a known code is a byte
-code-byte : (code : ℕ) → 0 < dataLength code → code < 256
-unfolding dataLength
-code-byte code some = ltb-true _ _ (passes-among (λ (c size : ℕ). ltb c 256) code types refl some)
+unfolding isToken isRecurring
+least-listed code some = leb-true _ _ (listed-passes (λ (c size : ℕ). leb (least c) size) refl code some)
 
 -- an action as a region has it: a known type, an expiry that fits, the listed length, bytes
 pub record Regular (a : Action) : Type 0 where
@@ -148,24 +124,3 @@ module _ {a : Action} (r : Regular a) where
       go (Spent x y) =
           read-before 8 (withNumberAt 8 (amountsOf a) 8 x) 24 y 16 (lit≤ tt) (rw (length-with-number 8 (amountsOf a) 8 x) room)
           ∙ read-after 8 (amountsOf a) 8 x 16 (lit≤ tt) (omega (arith, room))
-
-  fits : Fits a
-  fits = record { known = r .known; short = rw (r .sized) (omega (arith, data-at-most (a .kind))); soon = r .soon }
-
-  bytes-glued-one : Bytes (glueOne a)
-  unfolding glueOne
-  bytes-glued-one zero = code-byte (a .kind) (r .known)
-  bytes-glued-one (suc i) =
-      bytes-append (bytesOf 2 (length (a .payload)) ++ bytesOf 8 (a .expires)) (a .payload)
-      (bytes-append (bytesOf 2 (length (a .payload))) (bytesOf 8 (a .expires)) (bytesOf-bytes 2 (length (a .payload))) (bytesOf-bytes 8 (a .expires)))
-      (r .bytes) i
-
--- regular actions glue to bytes
-pub bytes-glued : (l : List Action) → AllRegular l → Bytes (glue l)
-unfolding glue
-bytes-glued [] rs = λ i. omega arith
-bytes-glued (a ∷ l) rs = bytes-append (glueOne a) (glue l) (bytes-glued-one (rs .0)) (bytes-glued l (rs .1))
-
-pub regular-fit : (l : List Action) → AllRegular l → AllFit l
-regular-fit [] rs = no-more
-regular-fit (a ∷ l) rs = one-more (fits (rs .0)) (regular-fit l (rs .1))

@@ -1,8 +1,4 @@
 pub mod Changing
-pub mod Cuts
-pub mod Cutting
-pub mod Gluing
-pub mod InRow
-pub mod Parsing
+pub mod Lengths
 pub mod Table
 pub mod Views

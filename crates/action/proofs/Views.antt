@@ -1,23 +1,21 @@
--- Laws of views: what data a view names, and the actions of the counted views one after the other.
+-- Laws of views: what data a view names, and what writing an action there changes.
 -- Assumes nothing.
 use mathlib.Core.Path.{_≡_, refl, sym, ap, ap₂, _∙_}
-use mathlib.Core.List.{List, [], _∷_, _++_, map, append-assoc, append-nil}
-use mathlib.Core.Logic.{⊎-elim}
-use Prim.Native.Nat.{ℕ, suc, _+_, _-_, _<_, _≤_}
-use native.Mathlib.Nat.{eq-zero-or-pos}
+use mathlib.Core.List.{List, [], _++_, append-assoc, append-nil}
+use Prim.Native.Nat.{ℕ, _+_, _-_, _<_, _≤_}
 use native.Mathlib.Omega.{arith}
-use borrow.Author.Tests.{le-leb, lt-leb, ne-eqb}
+use borrow.Author.Tests.{le-leb, lt-leb}
 use lib.Dec.{lit<}
-use lib.ListN.{length, getD, take, drop, length-drop, take-append-drop, drop-of-length-le, length-take, length-map, List·getD-map}
-use lib.Seq.{drop-cons, drop-drop, drop-at, take-add, take-take, take-all, length-take-le}
+use lib.ListN.{length, take, drop, length-drop, take-append-drop, drop-of-length-le, length-take}
+use lib.Seq.{drop-drop, drop-at, take-add, take-take, take-all, length-take-le}
 use Rattle.action.specs.declared.ActionView.{ActionView}
 use Rattle.number.specs.Number.{withNumberAt}
 use Rattle.number.proofs.Laws.{not-written}
 use Rattle.action.specs.declared.Change.{Change}
 use Rattle.action.specs.declared.Change.the-variants.{Nothing, Remaining, Spent}
-use Rattle.action.specs.Region.{Action, dataLength, sizeAmong}
+use Rattle.action.specs.Action.{Action}
 use Rattle.action.specs.Fields.{mintLength, amountsOf, withAmounts, changedAmounts, changed}
-use Rattle.action.specs.Views.{viewsOf, dataAt, actionAt, actionsIn, writtenAt}
+use Rattle.action.specs.Views.{dataAt, actionAt, writtenAt}
 
 pub data-there : (s : List ℕ) (v : ActionView) → v .at + v .len ≤ length s → dataAt s v ≡ take (v .len) (drop (v .at) s)
 unfolding dataAt
@@ -26,37 +24,6 @@ data-there s v h = rw (le-leb _ _ h)
 pub data-past : (s : List ℕ) (v : ActionView) → length s < v .at + v .len → dataAt s v ≡ []
 unfolding dataAt
 data-past s v h = rw (lt-leb _ _ h)
-
--- a code past the table is unknown
-pub unknown-code : (code : ℕ) → 12 ≤ code → dataLength code ≡ 0
-unfolding dataLength sizeAmong
-unknown-code code h =
-    rw (
-      ne-eqb code 1 (λ e. omega arith),
-      ne-eqb code 2 (λ e. omega arith),
-      ne-eqb code 3 (λ e. omega arith),
-      ne-eqb code 4 (λ e. omega arith),
-      ne-eqb code 5 (λ e. omega arith),
-      ne-eqb code 6 (λ e. omega arith),
-      ne-eqb code 10 (λ e. omega arith),
-      ne-eqb code 11 (λ e. omega arith),
-    )
-
-pub known-code : (code : ℕ) → 0 < dataLength code → code < 12
-known-code code h =
-    ⊎-elim (λ e. omega arith) (λ p. absurd (omega (arith, unknown-code code (omega arith)))) (eq-zero-or-pos (code - 11))
-
--- the actions of a row, one after the other
-pub actions-step : (s row : List ℕ) (i : ℕ) (d : ActionView) → i < length (viewsOf row)
-    → drop i (actionsIn s row) ≡ actionAt s (getD (viewsOf row) i d) ∷ drop (suc i) (actionsIn s row)
-unfolding actionsIn
-actions-step s row i d h =
-    let inside : i < length (map (actionAt s) (viewsOf row)) = simp length-map h in
-    rw (drop-cons (map (actionAt s) (viewsOf row)) i (actionAt s d), List·getD-map (actionAt s) (viewsOf row) i d)
-
-pub length-actions : (s row : List ℕ) → length (actionsIn s row) ≡ length (viewsOf row)
-unfolding actionsIn
-length-actions s row = simp length-map
 
 -- the amounts of the action that a view names, from its data
 module _ (s : List ℕ) (v : ActionView) (payload : List ℕ) (e : payload ≡ dataAt s v) where

@@ -9,7 +9,7 @@ use Rattle.key.specs.Key.{keyLength}
 use Rattle.number.specs.Number.{numberAt, withNumberAt}
 use Rattle.action.specs.declared.Change.{Change}
 use Rattle.action.specs.declared.Change.the-variants.{Nothing, Remaining, Spent}
-use Rattle.action.specs.Region.{Action, tokenLimit, tokenRecurringLimit, tokenMaxPerTx, solRecurringLimit}
+use Rattle.action.specs.Action.{Action, tokenLimit, tokenRecurringLimit, tokenMaxPerTx, solRecurringLimit}
 
 -- whether a type's data begins with a mint
 unfoldable pub isToken : ℕ → Bool

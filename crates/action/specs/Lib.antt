@@ -1,3 +1,3 @@
-pub mod Region
+pub mod Action
 pub mod Fields
 pub mod Views

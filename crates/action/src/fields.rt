@@ -7,7 +7,7 @@ use crate::TOKEN_MAX_PER_TX;
 use crate::TOKEN_RECURRING_LIMIT;
 use key::KEY_LENGTH;
 ghost use mathlib.Core.Path.{_≡_};
-ghost use Rattle.action.specs.Region.{expired};
+ghost use Rattle.action.specs.Action.{expired};
 ghost use Rattle.action.specs.Views.{actionAt, dataAt, writtenAt};
 ghost use Rattle.action.specs.Fields.{isToken, isRecurring, keyOf, mintLength, amountsOf, changedAmounts, changed};
 ghost use Rattle.action.specs.Fields.{remaining as remainingOf, maximum as maximumOf, limit as limitOf, spent as spentOf, window as windowOf, lastReset, withSpent};

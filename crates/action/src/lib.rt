@@ -1,14 +1,9 @@
-// The action region: reading headers, cutting, rows of actions, and the fields of an action's data. Any
-// bytes get an answer.
+// One action: the codes of the types and their data lengths, where an action lies, what a call writes
+// into it, and the fields of its data. Any bytes get an answer.
 pub mod fields;
-pub mod parse;
-pub mod row;
 
-use answer::Answer;
-
-pub const ACTION_HEADER_SIZE: usize = 11;
-
-pub const MAX_ACTIONS: usize = 16;
+ghost use mathlib.Core.Path.{_≡_};
+ghost use Rattle.action.specs.Action.{dataLength};
 
 pub const SOL_LIMIT: u8 = 1;
 
@@ -34,24 +29,20 @@ pub struct ActionView {
     pub len: usize,
 }
 
-// What reading a header answers.
-pub enum HeaderRead {
-    View(ActionView),
-    Refused(Answer),
-}
-
-// A region's actions in order, the four numbers of a view for each; zeros past the count, and on a
-// refusal everywhere. A row of numbers is lent where views would be copied.
-pub struct Parsed {
-    pub answer: Answer,
-    pub list: [u64; 64],
-    pub count: usize,
-}
-
 // What an accepted call writes into an action: nothing, what is left of a limit, or what is spent in
 // a window and the slot that the window began at.
 pub enum Change {
     Nothing,
     Remaining(u64),
     Spent(u64, u64),
+}
+
+// The data lengths by type code, 0 for unknown codes.
+const DATA_LENGTHS: [usize; 12] = [0, 8, 32, 8, 40, 64, 40, 0, 0, 0, 32, 32];
+
+pub fn expected_data_size(code: u8) -> usize
+    ensures { λ r. ⌜ r ≡ dataLength code ⌝ }
+{
+    let i = code as usize;
+    if i < 12 { DATA_LENGTHS[i] } else { 0 }
 }

@@ -17,13 +17,15 @@ use Rattle.key.specs.Key.{keyFrom, sameBytes, sameKey}
 use Rattle.key.specs.declared.Key.{Key}
 use Rattle.keys.specs.Keys.{isAmong, keysIn, keysOf, mostKeys, withKey}
 use Rattle.keys.specs.declared.Keys.{Keys}
+use Rattle.action.specs.Action.{dataLength, expired}
 use Rattle.action.specs.Fields.{amountsOf, changed, changedAmounts, isRecurring, isToken, keyOf, lastReset, limit as limitOf, maximum as maximumOf, remaining as remainingOf, spent as spentOf, window as windowOf}
-use Rattle.action.specs.Region.{cut, dataLength, expired, mostActions}
-use Rattle.action.specs.Views.{actionAt, actionsIn, dataAt, headerAnswer, headerAt, kindsIn, parsedOf, viewsOf as action-viewsOf, writtenAt, zeroView as action-zeroView}
+use Rattle.action.specs.Views.{actionAt, dataAt, writtenAt, zeroView as action-zeroView}
 use Rattle.action.specs.declared.ActionView.{ActionView}
 use Rattle.action.specs.declared.Change.{Change}
-use Rattle.action.specs.declared.HeaderRead.{HeaderRead}
-use Rattle.action.specs.declared.Parsed.{Parsed as action-Parsed}
+use Rattle.region.specs.Region.{cut, mostActions}
+use Rattle.region.specs.Views.{actionsIn, headerAnswer, headerAt, kindsIn, parsedOf, viewsOf as region-viewsOf}
+use Rattle.region.specs.declared.HeaderRead.{HeaderRead}
+use Rattle.region.specs.declared.Parsed.{Parsed as region-Parsed}
 use Rattle.creation.specs.Creation.{creation, howOften}
 use Rattle.creation.specs.Views.{storedAnswer}
 use Rattle.mints.specs.Mints.{listedMints}
@@ -233,45 +235,47 @@ pub action-fields-apply-change : (region : List ℕ) (view : ActionView) (change
     → OneOutcome (λ (o : List ℕ). o ≡ writtenAt region view (changed change (actionAt region view)))
 action-fields-apply-change _ _ _ _ _ p q = one-outcome p q
 
--- action::parse::expected_data_size
-pub action-parse-expected-data-size : (code : ℕ)
+-- action::expected_data_size
+pub action-expected-data-size : (code : ℕ)
     → OneOutcome (λ (r : ℕ). r ≡ dataLength code)
-action-parse-expected-data-size _ _ _ p q = one-outcome p q
+action-expected-data-size _ _ _ p q = one-outcome p q
 
--- action::parse::read_header
-pub action-parse-read-header : (region : List ℕ) (at : ℕ)
+-- ---- region
+
+-- region::parse::read_header
+pub region-parse-read-header : (region : List ℕ) (at : ℕ)
     → OneOutcome (λ (r : HeaderRead). r ≡ headerAt region at)
-action-parse-read-header _ _ _ _ p q = one-outcome p q
+region-parse-read-header _ _ _ _ p q = one-outcome p q
 
--- action::parse::header_answer
-pub action-parse-header-answer : (read : HeaderRead)
+-- region::parse::header_answer
+pub region-parse-header-answer : (read : HeaderRead)
     → OneOutcome (λ (r : Answer). r ≡ headerAnswer read)
-action-parse-header-answer _ _ _ p q = one-outcome p q
+region-parse-header-answer _ _ _ p q = one-outcome p q
 
--- action::parse::Parsed::refused
-pub action-parse-Parsed-refused : (answer : Answer)
-    → OneOutcome (λ (r : action-Parsed). r ≡ parsedOf (refused answer))
-action-parse-Parsed-refused _ _ _ p q = one-outcome p q
+-- region::parse::Parsed::refused
+pub region-parse-Parsed-refused : (answer : Answer)
+    → OneOutcome (λ (r : region-Parsed). r ≡ parsedOf (refused answer))
+region-parse-Parsed-refused _ _ _ p q = one-outcome p q
 
--- action::parse::parse_actions
-pub action-parse-parse-actions : (region : List ℕ)
-    → OneOutcome (λ (r : action-Parsed). r ≡ parsedOf (cut mostActions region))
-action-parse-parse-actions _ _ _ p q = one-outcome p q
+-- region::parse::parse_actions
+pub region-parse-parse-actions : (region : List ℕ)
+    → OneOutcome (λ (r : region-Parsed). r ≡ parsedOf (cut mostActions region))
+region-parse-parse-actions _ _ _ p q = one-outcome p q
 
--- action::row::actions_in
-pub action-row-actions-in : (list : List ℕ) (count : ℕ)
+-- region::row::actions_in
+pub region-row-actions-in : (list : List ℕ) (count : ℕ)
     → OneOutcome (λ (r : List ℕ). r ≡ take (4 * count) list)
-action-row-actions-in _ _ _ _ p q = one-outcome p q
+region-row-actions-in _ _ _ _ p q = one-outcome p q
 
--- action::row::how_many
-pub action-row-how-many : (actions : List ℕ)
-    → OneOutcome (λ (r : ℕ). r ≡ length (action-viewsOf actions))
-action-row-how-many _ _ _ p q = one-outcome p q
+-- region::row::how_many
+pub region-row-how-many : (actions : List ℕ)
+    → OneOutcome (λ (r : ℕ). r ≡ length (region-viewsOf actions))
+region-row-how-many _ _ _ p q = one-outcome p q
 
--- action::row::action_in
-pub action-row-action-in : (actions : List ℕ) (i : ℕ)
-    → OneOutcome (λ (r : ActionView). r ≡ getD (action-viewsOf actions) i action-zeroView)
-action-row-action-in _ _ _ _ p q = one-outcome p q
+-- region::row::action_in
+pub region-row-action-in : (actions : List ℕ) (i : ℕ)
+    → OneOutcome (λ (r : ActionView). r ≡ getD (region-viewsOf actions) i action-zeroView)
+region-row-action-in _ _ _ _ p q = one-outcome p q
 
 -- ---- creation
 

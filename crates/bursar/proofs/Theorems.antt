@@ -11,7 +11,7 @@ use lib.Dec.{eqb, ltb}
 use Rattle.answer.specs.Numbers.{accepts, badRegion}
 use Rattle.answer.specs.Refusable.{given}
 use Rattle.number.specs.Number.{highest}
-use Rattle.action.specs.Region.{Action, solLimit, tokenLimit, solRecurringLimit, tokenRecurringLimit}
+use Rattle.action.specs.Action.{Action, solLimit, tokenLimit, solRecurringLimit, tokenRecurringLimit}
 use Rattle.action.specs.Fields.{isToken, isRecurring, amountsOf, remaining, limit, spent, window, lastReset}
 use Rattle.creation.specs.declared.Rule.the-variants.{Fresh}
 use Rattle.creation.specs.Creation.{keeps, howOften, solRepeats, storedActions}

@@ -6,7 +6,8 @@ use lib.ListN.{replicate}
 use Rattle.answer.specs.NamedValue.{NamedValue}
 use Rattle.answer.specs.Numbers.{accepted, actionSolLimitExceeded, actionSolRecurringLimitExceeded}
 use Rattle.number.specs.Number.{bytesOf}
-use Rattle.action.specs.Region.{glue, solLimit, solRecurringLimit, tokenLimit}
+use Rattle.action.specs.Action.{solLimit, solRecurringLimit, tokenLimit}
+use Rattle.region.specs.Region.{glue}
 use Rattle.creation.specs.Creation.{creation}
 use Rattle.judge.specs.Judge.{Call}
 use Rattle.judge.specs.NamedValues.{spending}

@@ -8,7 +8,7 @@ use mathlib.Core.Option.{Option, none, some}
 use lib.Dec.{eqb}
 use lib.ListN.{length, take}
 use Rattle.key.specs.Key.{sameKey}
-use Rattle.action.specs.Region.{Action, solLimit, tokenLimit, solRecurringLimit, tokenRecurringLimit}
+use Rattle.action.specs.Action.{Action, solLimit, tokenLimit, solRecurringLimit, tokenRecurringLimit}
 use Rattle.action.specs.Fields.{isRecurring, keyOf, mintLength, amountsOf, limit, window, lastReset}
 use Rattle.creation.specs.Creation.{storedActions}
 use Rattle.limit.specs.Limit.{isLimit}

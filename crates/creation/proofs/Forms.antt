@@ -9,10 +9,11 @@ use Rattle.answer.specs.declared.Answer.{Answer}
 use Rattle.answer.specs.Numbers.{answer, accepted, accepts, refuseIf, actionBufferInvalid, actionWhitelistBlacklistConflict, badRegion}
 use Rattle.answer.specs.Refusable.{Refusable, given, refused}
 use Rattle.answer.proofs.Laws.{rule-holds, rule-broken, no-rule}
-use Rattle.action.specs.declared.Parsed.{Parsed}
-use Rattle.action.specs.Region.{Action, cut, mostActions}
-use Rattle.action.specs.Views.{parsedOf, actionsIn}
-use Rattle.action.proofs.Cuts.{cut-refuses, rowIn, actions-of-parsed}
+use Rattle.action.specs.Action.{Action}
+use Rattle.region.specs.declared.Parsed.{Parsed}
+use Rattle.region.specs.Region.{cut, mostActions}
+use Rattle.region.specs.Views.{parsedOf, actionsIn}
+use Rattle.region.proofs.Cuts.{cut-refuses, rowIn, actions-of-parsed}
 use Rattle.creation.specs.declared.Rule.{Rule}
 use Rattle.creation.specs.declared.Rule.the-variants.{Length, Fresh, Windowed}
 use Rattle.creation.specs.Creation.{allKeep, kindsOf, bothLists, solRepeats, mintRepeats, formOf, creation, inStoredForm, storedActions}

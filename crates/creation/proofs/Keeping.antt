@@ -8,7 +8,7 @@ use borrow.Author.Tests.{eq-eqb, ne-eqb, lt-ltb, le-ltb}
 use lib.Dec.{eqb, ltb}
 use lib.ListN.{length}
 use Rattle.action.specs.declared.ActionView.{ActionView}
-use Rattle.action.specs.Region.{Action, dataLength}
+use Rattle.action.specs.Action.{Action, dataLength}
 use Rattle.action.specs.Fields.{isRecurring, amountsOf, spent, window, lastReset}
 use Rattle.action.specs.Views.{dataAt, actionAt}
 use Rattle.creation.specs.declared.Rule.the-variants.{Length, Fresh, Windowed}

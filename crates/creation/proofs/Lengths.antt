@@ -10,10 +10,10 @@ use lib.ListN.{length, take, drop, length-drop}
 use lib.Seq.{length-take-le}
 use Rattle.number.specs.Number.{number, Bytes}
 use Rattle.number.proofs.Laws.{number-below, bytes-take, bytes-drop}
-use Rattle.action.specs.Region.{Action, dataLength}
+use Rattle.action.specs.Action.{Action, dataLength}
 use Rattle.action.proofs.Changing.{AllRegular}
-use Rattle.action.proofs.Cuts.{Cuts, none, more}
-use Rattle.action.proofs.Gluing.{data-at-most}
+use Rattle.action.proofs.Lengths.{data-at-most}
+use Rattle.region.proofs.Cuts.{Cuts, none, more}
 use Rattle.creation.specs.declared.Rule.the-variants.{Length}
 use Rattle.creation.specs.Creation.{keeps, allKeep}
 

@@ -5,8 +5,9 @@ use Rattle.answer.specs.NamedValue.{AsNamed}
 use Rattle.answer.specs.Numbers.{firstRefusal}
 use Rattle.key.specs.Key.{sameKey, sameBytes}
 use Rattle.number.specs.Number.{number, bytesOf, numberAt}
-use Rattle.action.specs.Region.{glue, cut, first, statedLength, dataLength, sizeAmong}
+use Rattle.action.specs.Action.{dataLength, sizeAmong}
 use Rattle.action.specs.Fields.{isToken, isRecurring, keyOf, amountsOf}
+use Rattle.region.specs.Region.{glue, cut, first, statedLength}
 use Rattle.creation.specs.Creation.{creation, formOf, allKeep, keeps, bothLists, solRepeats, howOften, mintRepeats, mintAgain}
 use Rattle.creation.specs.NamedValues.{namedValues}
 

@@ -11,10 +11,11 @@ use lib.ListN.{length, getD, drop, drop-of-length-le, length-map, List·getD-map
 use lib.Seq.{drop-cons}
 use Rattle.key.specs.Key.{sameKey}
 use Rattle.action.specs.declared.ActionView.{ActionView}
-use Rattle.action.specs.Region.{Action}
+use Rattle.action.specs.Action.{Action}
 use Rattle.action.specs.Fields.{isToken, keyOf}
-use Rattle.action.specs.Views.{viewsOf, zeroView, actionAt, actionsIn, kindsIn}
-use Rattle.action.proofs.Views.{actions-step, length-actions}
+use Rattle.action.specs.Views.{zeroView, actionAt}
+use Rattle.region.specs.Views.{viewsOf, actionsIn, kindsIn}
+use Rattle.region.proofs.Views.{actions-step, length-actions}
 use Rattle.creation.specs.declared.Rule.{Rule}
 use Rattle.creation.specs.Creation.{keeps, allKeep, howOften, kindsOf, mintAgain, mintRepeats}
 

@@ -9,8 +9,9 @@ use Rattle.answer.specs.declared.Answer.{Answer}
 use Rattle.answer.specs.Numbers.{answer, accepts, firstRefusal, refuseIf, actionBufferInvalid, actionWhitelistBlacklistConflict, badRegion}
 use Rattle.answer.specs.Refusable.{Refusable, given, refused}
 use Rattle.key.specs.Key.{sameKey}
-use Rattle.action.specs.Region.{Action, dataLength, cut, mostActions, solLimit, solRecurringLimit, solMaxPerTx, programWhitelist, programBlacklist}
+use Rattle.action.specs.Action.{Action, dataLength, solLimit, solRecurringLimit, solMaxPerTx, programWhitelist, programBlacklist}
 use Rattle.action.specs.Fields.{isToken, isRecurring, keyOf, amountsOf, spent, window, lastReset}
+use Rattle.region.specs.Region.{cut, mostActions}
 use Rattle.creation.specs.declared.Rule.{Rule}
 use Rattle.creation.specs.declared.Rule.the-variants.{Length, Fresh, Windowed}
 

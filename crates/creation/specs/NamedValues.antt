@@ -6,7 +6,8 @@ use lib.ListN.{length, take, replicate}
 use Rattle.answer.specs.NamedValue.{NamedValue}
 use Rattle.answer.specs.Numbers.{accepted, actionBufferInvalid, actionWhitelistBlacklistConflict}
 use Rattle.number.specs.Number.{bytesOf}
-use Rattle.action.specs.Region.{Action, glue, solLimit, programWhitelist, programBlacklist}
+use Rattle.action.specs.Action.{Action, solLimit, programWhitelist, programBlacklist}
+use Rattle.region.specs.Region.{glue}
 use Rattle.creation.specs.Creation.{creation}
 
 -- a SolLimit of 100 that never expires

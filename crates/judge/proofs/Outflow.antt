@@ -21,11 +21,12 @@ use Rattle.keys.proofs.Searching.{Searched}
 use Rattle.number.specs.Number.{flooredDifference}
 use Rattle.action.specs.declared.ActionView.{ActionView}
 use Rattle.action.specs.Fields.{isToken, keyOf}
-use Rattle.action.specs.Views.{viewsOf, zeroView, actionAt, actionsIn}
+use Rattle.action.specs.Views.{zeroView, actionAt}
 use Rattle.account.specs.Record.{Record}
 use Rattle.balance.specs.declared.Sums.{Sums}
 use Rattle.balance.specs.Balance.{balance}
 use Rattle.balance.specs.Views.{sumsOf}
+use Rattle.region.specs.Views.{viewsOf, actionsIn}
 use Rattle.judge.specs.Judge.{decrease}
 use Rattle.judge.specs.Views.{decreaseOf, solAmount, amountFrom}
 

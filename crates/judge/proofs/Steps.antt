@@ -17,14 +17,15 @@ use Rattle.answer.proofs.Laws.{first-passes, first-refuses, rule-holds, rule-br
 use Rattle.number.specs.Number.{Bytes}
 use Rattle.keys.specs.declared.Keys.{Keys}
 use Rattle.keys.specs.Keys.{isAmong, keysIn}
-use Rattle.action.specs.declared.Parsed.{Parsed}
-use Rattle.action.specs.Region.{Action, cut, glue, mostActions}
+use Rattle.action.specs.Action.{Action}
+use Rattle.region.specs.declared.Parsed.{Parsed}
+use Rattle.region.specs.Region.{cut, glue, mostActions}
 use Rattle.mints.specs.Mints.{isListed, listedMints}
 use Rattle.action.specs.declared.ActionView.{ActionView}
 use Rattle.creation.specs.Creation.{inStoredForm, storedActions}
 use Rattle.creation.specs.Views.{storedAnswer}
-use Rattle.action.specs.Views.{placed as placedAt, viewsOf, actionsIn, parsedOf}
-use Rattle.action.proofs.Cuts.{cut-cuts, cut-at-most, rowIn, views-of-parsed, actions-of-parsed}
+use Rattle.region.specs.Views.{placed as placedAt, viewsOf, actionsIn, parsedOf}
+use Rattle.region.proofs.Cuts.{cut-cuts, cut-at-most, rowIn, views-of-parsed, actions-of-parsed}
 use Rattle.creation.proofs.Forms.{stored-by-answer}
 use Rattle.mints.proofs.Held.{listed-mints-hold}
 use Rattle.creation.proofs.Theorems.{stored-is-formed, stored-is-glued}

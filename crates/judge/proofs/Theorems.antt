@@ -15,11 +15,12 @@ use Rattle.answer.specs.Refusable.{Refusable, given, refused}
 use Rattle.answer.proofs.Laws.{first-passes, first-refuses, no-rule, EachAccepts, each-accepts}
 use Rattle.number.specs.Number.{Bytes}
 use Rattle.action.specs.declared.Change.{Change}
-use Rattle.action.specs.Region.{Action, glue, solLimit, solRecurringLimit, solMaxPerTx, tokenLimit, tokenRecurringLimit, tokenMaxPerTx}
+use Rattle.action.specs.Action.{Action, solLimit, solRecurringLimit, solMaxPerTx, tokenLimit, tokenRecurringLimit, tokenMaxPerTx}
 use Rattle.action.specs.Fields.{changed}
+use Rattle.region.specs.Region.{glue}
 use Rattle.mints.specs.Mints.{isListed}
 use Rattle.creation.specs.Creation.{howOften, kindsOf, storedActions}
-use Rattle.action.proofs.Changing.{bytes-glued}
+use Rattle.region.proofs.Gluing.{bytes-glued}
 use Rattle.creation.proofs.Theorems.{stored-is-formed, stored-is-regular, glued-is-stored, formed-changed, regular-changed}
 use Rattle.compact.specs.Compact.{Instruction, Read, decode}
 use Rattle.account.specs.Record.{Record}

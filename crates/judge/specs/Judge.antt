@@ -11,8 +11,9 @@ use Rattle.answer.specs.Numbers.{answer, accepted, accepts, firstRefusal, refus
 use Rattle.answer.specs.Refusable.{Refusable, given, refused}
 use Rattle.number.specs.Number.{flooredDifference}
 use Rattle.key.specs.Key.{keyLength}
-use Rattle.action.specs.Region.{Action, glue, solMaxPerTx}
+use Rattle.action.specs.Action.{Action, solMaxPerTx}
 use Rattle.action.specs.Fields.{isToken, keyOf}
+use Rattle.region.specs.Region.{glue}
 use Rattle.mints.specs.Mints.{isListed}
 use Rattle.creation.specs.Creation.{storedActions}
 use Rattle.compact.specs.Compact.{Instruction, Read, decode}

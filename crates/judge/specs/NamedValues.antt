@@ -6,7 +6,8 @@ use lib.ListN.{replicate}
 use Rattle.answer.specs.NamedValue.{NamedValue}
 use Rattle.answer.specs.Numbers.{accepted, actionSolMaxPerTxExceeded, actionSolLimitExceeded, actionSolRecurringLimitExceeded}
 use Rattle.number.specs.Number.{bytesOf}
-use Rattle.action.specs.Region.{glue, solLimit, solRecurringLimit, solMaxPerTx}
+use Rattle.action.specs.Action.{solLimit, solRecurringLimit, solMaxPerTx}
+use Rattle.region.specs.Region.{glue}
 use Rattle.creation.specs.NamedValues.{namedValues as creationValues}
 use Rattle.compact.specs.NamedValues.{namedValues as compactValues}
 use Rattle.judge.specs.Judge.{Call, judged, regionAfter}

@@ -8,7 +8,7 @@ use Rattle.answer.specs.declared.Answer.{Answer}
 use Rattle.answer.specs.Numbers.{answer, accepted, firstRefusal, refuseIf, sessionTokenAuthorityChanged}
 use Rattle.keys.specs.declared.Keys.{Keys}
 use Rattle.keys.specs.Keys.{isAmong, keysIn}
-use Rattle.action.specs.Region.{Action, solMaxPerTx}
+use Rattle.action.specs.Action.{Action, solMaxPerTx}
 use Rattle.action.specs.Fields.{isToken, keyOf}
 use Rattle.mints.specs.Mints.{listedMints}
 use Rattle.account.specs.Record.{Record}

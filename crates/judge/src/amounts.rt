@@ -1,16 +1,16 @@
 // The amount that each action's rule looks at.
 use action::ActionView;
-use action::MAX_ACTIONS;
 use action::SOL_MAX_PER_TX;
 use action::fields::is_token;
 use action::fields::key_of;
-use action::row::action_in;
-use action::row::how_many;
 use balance::Sums;
 use balance::balance;
 use balance::balances;
 use keys::Keys;
 use number::floored_difference;
+use region::MAX_ACTIONS;
+use region::row::action_in;
+use region::row::how_many;
 ghost use mathlib.Core.Path.{_≡_};
 ghost use mathlib.Core.Bool.{true};
 ghost use mathlib.Core.List.{map};
@@ -19,9 +19,10 @@ ghost use lib.ListN.{length};
 ghost use Rattle.keys.specs.Keys.{keysIn};
 ghost use Rattle.account.specs.Views.{recordsIn};
 ghost use Rattle.balance.specs.Views.{sumsOf};
-ghost use Rattle.action.specs.Region.{mostActions};
 ghost use Rattle.action.specs.Fields.{keyOf};
-ghost use Rattle.action.specs.Views.{viewsOf, actionAt, actionsIn};
+ghost use Rattle.action.specs.Views.{actionAt};
+ghost use Rattle.region.specs.Region.{mostActions};
+ghost use Rattle.region.specs.Views.{viewsOf, actionsIn};
 ghost use Rattle.judge.specs.Views.{decreaseOf, solAmount, amountFrom};
 
 // How much the vault's balance of a mint went down.

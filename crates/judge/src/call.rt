@@ -1,9 +1,6 @@
 // The nine steps.
 use crate::amounts::amounts;
 use account::places_in;
-use action::parse::parse_actions;
-use action::row::actions_in;
-use action::row::how_many;
 use answer::ACCEPTED;
 use answer::Answer;
 use answer::BAD_TABLE;
@@ -20,6 +17,9 @@ use mints::listed_mints;
 use number::floored_difference;
 use programs::evaluate_pre_actions;
 use table::cut_places;
+use region::parse::parse_actions;
+use region::row::actions_in;
+use region::row::how_many;
 ghost use mathlib.Core.Path.{_≡_};
 ghost use mathlib.Core.Bool.{true, cond};
 ghost use mathlib.Core.List.{map};
@@ -28,7 +28,7 @@ ghost use Rattle.answer.specs.Numbers.{accepts};
 ghost use Rattle.table.specs.Table.{cutTable, recordsOf};
 ghost use Rattle.account.specs.Views.{recordsIn};
 ghost use Rattle.balance.specs.Views.{sumsOf};
-ghost use Rattle.action.specs.Views.{actionsIn};
+ghost use Rattle.region.specs.Views.{actionsIn};
 ghost use Rattle.limit.specs.Views.{chargesAt, settledAt};
 ghost use Rattle.judge.specs.Judge.{callOf, answerOf, judged, regionAfter};
 ghost use Rattle.judge.specs.Views.{amountFrom, checksFrom, limitsFrom, rulesFrom};

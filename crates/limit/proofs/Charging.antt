@@ -14,10 +14,11 @@ use Rattle.answer.specs.Numbers.{answer, accepted, accepts}
 use Rattle.answer.proofs.Laws.{first-passes, first-refuses, no-rule}
 use Rattle.action.specs.declared.ActionView.{ActionView}
 use Rattle.action.specs.declared.Change.{Change}
-use Rattle.action.specs.Region.{Action}
+use Rattle.action.specs.Action.{Action}
 use Rattle.action.specs.Fields.{changed}
-use Rattle.action.specs.Views.{viewsOf, zeroView, actionAt, actionsIn, writtenAt}
-use Rattle.action.proofs.Views.{actions-step, length-actions}
+use Rattle.action.specs.Views.{zeroView, actionAt, writtenAt}
+use Rattle.region.specs.Views.{viewsOf, actionsIn}
+use Rattle.region.proofs.Views.{actions-step, length-actions}
 use Rattle.limit.specs.Limit.{Charge, ruleAnswer, ofClass, classAnswer, changeOf, settled}
 use Rattle.limit.specs.Views.{charges, chargesAt, settledViews, settledAt}
 

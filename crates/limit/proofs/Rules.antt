@@ -11,7 +11,7 @@ use Rattle.answer.specs.Numbers.{answer, accepted}
 use Rattle.number.specs.Number.{cappedSum, flooredDifference}
 use Rattle.action.specs.declared.Change.{Change}
 use Rattle.action.specs.declared.Change.the-variants.{Nothing, Remaining, Spent}
-use Rattle.action.specs.Region.{Action, expired}
+use Rattle.action.specs.Action.{Action, expired}
 use Rattle.action.specs.Fields.{isRecurring, amountsOf, remaining, limit, spent, window, lastReset}
 use Rattle.limit.specs.Limit.{Charge, refusalOf, windowOver, base, above, breaks, ruleAnswer, spentChange, isLimit, liveChange, changeOf}
 

@@ -5,10 +5,12 @@ use mathlib.Core.List.{List, [], _∷_, _++_, map, append-assoc, append-nil}
 use Prim.Native.Nat.{ℕ, _+_, _≤_}
 use native.Mathlib.Omega.{arith}
 use lib.ListN.{length, length-append}
-use Rattle.action.specs.Region.{Action, glueOne, glue}
-use Rattle.action.specs.Views.{actionAt, viewAt, placed, viewsOf, writtenAt}
+use Rattle.action.specs.Action.{Action}
+use Rattle.action.specs.Views.{actionAt, writtenAt}
 use Rattle.action.proofs.Changing.{changed-kind, changed-expires, changed-length}
-use Rattle.action.proofs.Gluing.{glue-append, length-glueOne, glued-action, glued-written}
+use Rattle.region.specs.Region.{glueOne, glue}
+use Rattle.region.specs.Views.{viewAt, placed, viewsOf}
+use Rattle.region.proofs.Gluing.{glue-append, length-glueOne, glued-action, glued-written}
 use Rattle.limit.specs.Limit.{Charge, changeOf, settled}
 use Rattle.limit.specs.Views.{charges, settledViews, settledAt}
 

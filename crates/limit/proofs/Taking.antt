@@ -16,7 +16,7 @@ use Rattle.number.specs.Number.{withNumberAt, cappedSum, flooredDifference, hig
 use Rattle.number.proofs.Laws.{read-back, read-before, read-below, length-with-number}
 use Rattle.action.specs.declared.Change.{Change}
 use Rattle.action.specs.declared.Change.the-variants.{Nothing}
-use Rattle.action.specs.Region.{expired}
+use Rattle.action.specs.Action.{expired}
 use Rattle.action.specs.Fields.{isToken, isRecurring, amountsOf, remaining, limit, spent, window, lastReset, changedAmounts}
 use Rattle.action.proofs.Changing.{Regular, mint-there, amounts-there, amounts-are-bytes, changed-amounts}
 use Rattle.limit.specs.Limit.{Charge, refusalOf, isSol, ofClass, classAnswer, ruleAnswer, windowOver, base, above, breaks, spentChange, isLimit, liveChange, changeOf, settled}

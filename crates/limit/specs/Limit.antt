@@ -9,7 +9,7 @@ use Rattle.answer.specs.Numbers.{answer, accepted, firstRefusal, refuseIf, acti
 use Rattle.number.specs.Number.{cappedSum, flooredDifference}
 use Rattle.action.specs.declared.Change.{Change}
 use Rattle.action.specs.declared.Change.the-variants.{Nothing, Remaining, Spent}
-use Rattle.action.specs.Region.{Action, expired, solLimit, solRecurringLimit, solMaxPerTx, tokenLimit, tokenRecurringLimit, tokenMaxPerTx}
+use Rattle.action.specs.Action.{Action, expired, solLimit, solRecurringLimit, solMaxPerTx, tokenLimit, tokenRecurringLimit, tokenMaxPerTx}
 use Rattle.action.specs.Fields.{isToken, isRecurring, amountsOf, remaining, limit, spent, window, lastReset, changed}
 
 -- an action and the amount that its rule looks at

@@ -3,8 +3,9 @@
 use Prim.Native.Nat.{ℕ}
 use mathlib.Core.List.{List, [], _∷_}
 use Rattle.action.specs.declared.ActionView.{ActionView}
-use Rattle.action.specs.Region.{Action}
-use Rattle.action.specs.Views.{viewsOf, actionAt, actionsIn, writtenAt}
+use Rattle.action.specs.Action.{Action}
+use Rattle.action.specs.Views.{actionAt, writtenAt}
+use Rattle.region.specs.Views.{viewsOf, actionsIn}
 use Rattle.limit.specs.Limit.{Charge, settled}
 
 -- actions with an amount each, as far as both go

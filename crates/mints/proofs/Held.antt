@@ -13,7 +13,7 @@ use Rattle.keys.specs.declared.Keys.{Keys}
 use Rattle.key.specs.Key.{sameKey, zeroKey}
 use Rattle.keys.specs.Keys.{isAmong, keysIn, keysOf, withKey}
 use Rattle.keys.proofs.Laws.{among-with-one, with-key-in, with-key-next}
-use Rattle.action.specs.Region.{Action, dataLength, sizeAmong}
+use Rattle.action.specs.Action.{Action, dataLength, sizeAmong}
 use Rattle.action.specs.Fields.{isToken, keyOf}
 use Rattle.mints.specs.Mints.{isListed, withMint, withMints, listedMints}
 use Rattle.mints.proofs.Listing.{mint-kept, mint-added, mints-none}

@@ -13,11 +13,12 @@ use Rattle.keys.specs.Keys.{isAmong, keysIn, keysOf, withKey}
 use Rattle.key.specs.Key.{keyFrom}
 use Rattle.keys.proofs.Filling.{with-new}
 use Rattle.action.specs.declared.ActionView.{ActionView}
-use Rattle.action.specs.Region.{Action}
+use Rattle.action.specs.Action.{Action}
 use Rattle.action.specs.Fields.{isToken, keyOf}
 use Rattle.mints.specs.Mints.{withMint, withMints, listedMints}
-use Rattle.action.specs.Views.{viewsOf, zeroView, actionAt, actionsIn}
-use Rattle.action.proofs.Views.{actions-step, length-actions}
+use Rattle.action.specs.Views.{zeroView, actionAt}
+use Rattle.region.specs.Views.{viewsOf, actionsIn}
+use Rattle.region.proofs.Views.{actions-step, length-actions}
 
 pub mint-kept : (mints : Keys) (a : Action) → isToken (a .kind) ≡ false → withMint mints a ≡ mints
 unfolding withMint

@@ -6,7 +6,7 @@ use mathlib.Core.List.{List, [], _∷_}
 use Rattle.keys.specs.declared.Keys.{Keys}
 use Rattle.key.specs.Key.{sameKey}
 use Rattle.keys.specs.Keys.{keysOf, withKey}
-use Rattle.action.specs.Region.{Action}
+use Rattle.action.specs.Action.{Action}
 use Rattle.action.specs.Fields.{isToken, keyOf}
 
 -- whether a mint is in any token action

@@ -2,12 +2,12 @@
 use action::ActionView;
 use action::fields::is_token;
 use action::fields::key_of;
-use action::row::action_in;
-use action::row::how_many;
 use key::KEY_LENGTH;
 use key::Key;
 use keys::Keys;
 use keys::MAX_KEYS;
+use region::row::action_in;
+use region::row::how_many;
 ghost use mathlib.Core.Path.{_≡_};
 ghost use mathlib.Core.Bool.{not, _&&_};
 ghost use lib.Dec.{eqb, ltb};
@@ -16,7 +16,7 @@ ghost use Rattle.key.specs.Key.{sameKey, keyLength};
 ghost use Rattle.keys.specs.Keys.{mostKeys};
 ghost use Rattle.action.specs.Fields.{isToken};
 ghost use Rattle.mints.specs.Mints.{listedMints};
-ghost use Rattle.action.specs.Views.{actionsIn};
+ghost use Rattle.region.specs.Views.{actionsIn};
 
 // Whether an action's mint is put into a list of `count` keys, where a search for it ended at `k`.
 fn is_new(view: ActionView, mint: &[u8], k: Key, count: usize) -> bool

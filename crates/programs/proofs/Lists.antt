@@ -13,11 +13,12 @@ use Rattle.answer.specs.Numbers.{answer, accepted, accepts, invalidInstructionD
 use Rattle.answer.proofs.Laws.{first-passes, first-refuses, rule-holds, rule-broken, no-rule, only}
 use Rattle.key.specs.Key.{sameKey}
 use Rattle.action.specs.declared.ActionView.{ActionView}
-use Rattle.action.specs.Region.{Action, expired}
+use Rattle.action.specs.Action.{Action, expired}
 use Rattle.action.specs.Fields.{keyOf}
-use Rattle.action.specs.Views.{viewsOf, zeroView, actionAt, actionsIn, kindsIn}
+use Rattle.action.specs.Views.{zeroView, actionAt}
+use Rattle.region.specs.Views.{viewsOf, actionsIn, kindsIn}
 use Rattle.creation.specs.Creation.{howOften, kindsOf}
-use Rattle.action.proofs.Views.{actions-step, length-actions}
+use Rattle.region.proofs.Views.{actions-step, length-actions}
 use Rattle.creation.proofs.Scanning.{kinds-of-actions}
 use Rattle.account.specs.Record.{Record}
 use Rattle.lookup.specs.Indexes.{keyAmong}

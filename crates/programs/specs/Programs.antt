@@ -8,7 +8,7 @@ use lib.ListN.{length}
 use Rattle.answer.specs.declared.Answer.{Answer}
 use Rattle.answer.specs.Numbers.{firstRefusal, refuseIf, invalidInstructionData, actionProgramNotWhitelisted, actionProgramBlacklisted}
 use Rattle.key.specs.Key.{sameKey}
-use Rattle.action.specs.Region.{Action, expired, programWhitelist, programBlacklist}
+use Rattle.action.specs.Action.{Action, expired, programWhitelist, programBlacklist}
 use Rattle.action.specs.Fields.{keyOf}
 use Rattle.creation.specs.Creation.{howOften, kindsOf}
 use Rattle.account.specs.Record.{Record}

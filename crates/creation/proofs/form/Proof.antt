@@ -4,8 +4,8 @@ use mathlib.Core.Path.{_≡_, sym, _∙_, ap}
 use borrow.Author.Tests.{not-true, not-false}
 use mathlib.Core.Bool.{true, false}
 use mathlib.Core.List.{List}
-use Rattle.action.specs.Region.{Action}
-use Rattle.action.specs.Views.{actionsIn}
+use Rattle.action.specs.Action.{Action}
+use Rattle.region.specs.Views.{actionsIn}
 use Rattle.creation.specs.declared.Rule.the-variants.{Length}
 use Rattle.creation.specs.Creation.{allKeep, kindsOf, bothLists, solRepeats, mintRepeats}
 use Rattle.creation.proofs.Scanning.{kinds-of-actions}

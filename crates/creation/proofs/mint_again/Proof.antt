@@ -5,7 +5,8 @@ use mathlib.Core.Path.{_≡_, refl, sym, _∙_}
 use native.Mathlib.Numerals.{add-one}
 use native.Mathlib.Omega.{arith}
 use lib.ListN.{length, drop}
-use Rattle.action.specs.Views.{viewsOf, actionAt, actionsIn}
+use Rattle.action.specs.Views.{actionAt}
+use Rattle.region.specs.Views.{viewsOf, actionsIn}
 use Rattle.creation.specs.Creation.{mintAgain}
 use Rattle.creation.proofs.Scanning.{again-found, again-passed, again-end}
 use Rattle.creation.proofs.mint_again.Statement.{statement}

@@ -6,7 +6,8 @@ use native.Mathlib.Numerals.{add-one}
 use native.Mathlib.Omega.{arith}
 use lib.ListN.{length, drop}
 use borrow.Author.Tests.{not-true, not-false}
-use Rattle.action.specs.Views.{viewsOf, actionAt}
+use Rattle.action.specs.Views.{actionAt}
+use Rattle.region.specs.Views.{viewsOf}
 use Rattle.limit.specs.Limit.{classAnswer}
 use Rattle.limit.specs.Views.{chargesAt}
 use Rattle.limit.proofs.Charging.{class-refused, class-passed, class-end}

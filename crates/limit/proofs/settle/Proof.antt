@@ -5,7 +5,7 @@ use mathlib.Core.Path.{_≡_, refl, sym, _∙_}
 use native.Mathlib.Numerals.{add-one}
 use native.Mathlib.Omega.{arith}
 use lib.ListN.{length, drop}
-use Rattle.action.specs.Views.{viewsOf}
+use Rattle.region.specs.Views.{viewsOf}
 use Rattle.limit.specs.Views.{settledViews}
 use Rattle.limit.proofs.Charging.{settle-step, settle-end, settle-all}
 use Rattle.limit.proofs.settle.Statement.{statement}

@@ -1,7 +1,7 @@
 -- `action::fields::is_expired` meets its contract, by the cases of its test.
 -- Assumes nothing.
 use borrow.Author.Tests.{ne-eqb}
-use Rattle.action.specs.Region.{expired}
+use Rattle.action.specs.Action.{expired}
 use Rattle.action.proofs.fields.is_expired.Statement.{statement}
 use Rattle.action.proofs.fields.is_expired.Tie as tie
 

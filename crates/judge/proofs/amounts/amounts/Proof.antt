@@ -9,9 +9,9 @@ use native.Mathlib.Omega.{arith}
 use lib.ListN.{length, getD, length-map}
 use Rattle.keys.proofs.Searching.{Searched, search-starts, search-room, search-next}
 use Rattle.account.specs.Views.{recordsIn}
-use Rattle.action.specs.Views.{viewsOf, actionsIn}
-use Rattle.action.proofs.Views.{length-actions}
 use Rattle.balance.specs.declared.Sums.{Sums}
+use Rattle.region.specs.Views.{viewsOf, actionsIn}
+use Rattle.region.proofs.Views.{length-actions}
 use Rattle.judge.specs.Views.{amountFrom, decreaseOf}
 use Rattle.judge.proofs.Outflow.{laid, amount-laid, all-laid, action-at, found-decrease}
 use Rattle.judge.proofs.amounts.amounts.Statement.{statement}

@@ -9,10 +9,10 @@ use mathlib.Core.List.{List}
 use Rattle.answer.specs.declared.Answer.{Answer}
 use Rattle.answer.specs.Numbers.{accepts}
 use Rattle.answer.proofs.Laws.{accepted-is}
-use Rattle.action.specs.Region.{Action}
+use Rattle.action.specs.Action.{Action}
 use Rattle.mints.specs.Mints.{listedMints}
-use Rattle.action.specs.Views.{actionsIn}
-use Rattle.action.proofs.Views.{length-actions}
+use Rattle.region.specs.Views.{actionsIn}
+use Rattle.region.proofs.Views.{length-actions}
 use Rattle.account.specs.Views.{recordsIn}
 use Rattle.keys.specs.declared.Keys.{Keys}
 use Rattle.judge.specs.Views.{checksFrom}

@@ -1,0 +1,2 @@
+pub mod Region
+pub mod Views
