@@ -46,8 +46,8 @@ use Rattle.limit.specs.Limit.{changeOf, classAnswer, ruleAnswer}
 use Rattle.limit.specs.Views.{chargesAt, settledAt}
 use Rattle.programs.specs.Programs.{programsAnswer}
 use Rattle.freeze.specs.Freeze.{allFrozen}
+use Rattle.outflow.specs.Outflow.{amountFrom}
 use Rattle.judge.specs.Judge.{callOf as judge-callOf, judged, regionAfter}
-use Rattle.judge.specs.Views.{amountFrom}
 use Rattle.frame.specs.Frame.{callOf as frame-callOf, noTally, openingOf, partIn, partsToRead, tallied}
 use Rattle.frame.specs.declared.Frame.{Frame}
 use Rattle.frame.specs.declared.Opening.{Opening}
@@ -433,17 +433,19 @@ pub freeze-verify-token-authorities-unchanged : (before «before_places» after 
     → OneOutcome (λ (r : Bool). r ≡ allFrozen vault (λ (mint : List ℕ). isAmong mint (keysIn mints)) (recordsIn after «after_places») (recordsIn before «before_places»))
 freeze-verify-token-authorities-unchanged _ _ _ _ _ _ _ _ p q = one-outcome p q
 
+-- ---- outflow
+
+-- outflow::amounts
+pub outflow-amounts : (region actions before «before_places» after «after_places» vault : List ℕ) (sol gross : ℕ) (mints : Keys)
+    → OneOutcome (λ (r : Sums). r ≡ sumsOf (map (amountFrom vault (recordsIn before «before_places») (recordsIn after «after_places») sol gross) (actionsIn region actions)))
+outflow-amounts _ _ _ _ _ _ _ _ _ _ _ _ p q = one-outcome p q
+
 -- ---- judge
 
--- judge::amounts::amounts
-pub judge-amounts-amounts : (region actions before «before_places» after «after_places» vault : List ℕ) (sol gross : ℕ) (mints : Keys)
-    → OneOutcome (λ (r : Sums). r ≡ sumsOf (map (amountFrom vault (recordsIn before «before_places») (recordsIn after «after_places») sol gross) (actionsIn region actions)))
-judge-amounts-amounts _ _ _ _ _ _ _ _ _ _ _ _ p q = one-outcome p q
-
--- judge::call::judge
-pub judge-call-judge : (region before after instructions vault : List ℕ) (slot «lamports_before» «lamports_after» gross : ℕ)
+-- judge::judge
+pub judge-judge : (region before after instructions vault : List ℕ) (slot «lamports_before» «lamports_after» gross : ℕ)
     → OneOutcome (λ (o : Answer × List ℕ). (o .0 ≡ judged region (judge-callOf before after instructions vault slot «lamports_before» «lamports_after» gross)) × (o .1 ≡ regionAfter region (judge-callOf before after instructions vault slot «lamports_before» «lamports_after» gross)))
-judge-call-judge _ _ _ _ _ _ _ _ _ _ _ p q = one-outcome (both p) (both q)
+judge-judge _ _ _ _ _ _ _ _ _ _ _ p q = one-outcome (both p) (both q)
 
 -- ---- thimbleford
 

@@ -45,8 +45,9 @@ use Rattle.limit.specs.Views.{charges, chargesAt, settledViews, settledAt}
 use Rattle.limit.proofs.Settling.{settle-glued}
 use Rattle.freeze.specs.Freeze.{allFrozen}
 use Rattle.programs.specs.Programs.{programsAnswer}
-use Rattle.judge.specs.Judge.{Call, answerOf, recordsBefore, recordsAfter, programsOf, readAnswer, actionsOf, decrease, amountFor, charged, soundness, rules, steps, judged, regionAfter}
-use Rattle.judge.specs.Views.{decreaseOf, solAmount, amountFrom, frozenFrom, checksFrom, limitsFrom, rulesFrom}
+use Rattle.outflow.specs.Outflow.{decrease, amountFrom}
+use Rattle.judge.specs.Judge.{Call, answerOf, recordsBefore, recordsAfter, programsOf, readAnswer, actionsOf, amountFor, charged, soundness, rules, steps, judged, regionAfter}
+use Rattle.judge.specs.Views.{frozenFrom, checksFrom, limitsFrom, rulesFrom}
 use Rattle.freeze.proofs.Freezing.{frozen-alike}
 
 -- ---- steps 5 to 8, from what was cut
@@ -212,7 +213,7 @@ amountsFor call l = amountsFrom call (recordsBefore call) (recordsAfter call) (d
 
 -- those of at most sixteen actions are there
 amounts-there : (call : Call) (l : List Action) → length l ≤ 16 → amountsFor call l ≡ map (amountFor call) l ++ replicate (16 - length l) 0
-unfolding sumsOf amountFor amountFrom decreaseOf solAmount
+unfolding sumsOf amountFor
 amounts-there call l few =
     let all = map (amountFor call) l in
     let size : length all ≡ length l = simp length-map in

@@ -1,4 +1,4 @@
--- `judge::call::judge_cut` meets its contract: an empty region has no rules; the checks decide before the limits; only what passes both is settled.
+-- `judge::judge_cut` meets its contract: an empty region has no rules; the checks decide before the limits; only what passes both is settled.
 -- Assumes nothing.
 use Prim.Native.Nat.{_<_, _≤_}
 use mathlib.Core.Path.{_≡_, sym, ap, _∙_}
@@ -18,8 +18,8 @@ use Rattle.key.specs.declared.Keys.{Keys}
 use Rattle.judge.specs.Views.{checksFrom}
 use Rattle.judge.proofs.Steps.{no-rules, rules-unchecked, rules-checked, no-views-settled, region-kept, region-written}
 use borrow.Author.Needs.{needs}
-use Rattle.judge.proofs.call.judge_cut.Statement.{statement}
-use Rattle.judge.proofs.call.judge_cut.Tie as tie
+use Rattle.judge.proofs.judge_cut.Statement.{statement}
+use Rattle.judge.proofs.judge_cut.Tie as tie
 
 -- where the call began
 abbrev start-of : tie.After-how-many → tie.Start

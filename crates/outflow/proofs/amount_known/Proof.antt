@@ -1,12 +1,12 @@
--- `judge::amounts::amount_known` meets its contract: only a token action has a mint, and the decrease of a listed one is known.
+-- `outflow::amount_known` meets its contract: only a token action has a mint, and the decrease of a listed one is known.
 -- Assumes nothing.
 use mathlib.Core.Path.{sym, ap, _∙_}
 use borrow.Author.Needs.{needs}
 use borrow.Author.Tests.{not-true, not-false}
-use Rattle.judge.specs.Views.{decreaseOf}
-use Rattle.judge.proofs.Outflow.{token-amount, other-amount}
-use Rattle.judge.proofs.amounts.amount_known.Statement.{statement}
-use Rattle.judge.proofs.amounts.amount_known.Tie as tie
+use Rattle.outflow.specs.Outflow.{decreaseOf}
+use Rattle.outflow.proofs.Outflow.{token-amount, other-amount}
+use Rattle.outflow.proofs.amount_known.Statement.{statement}
+use Rattle.outflow.proofs.amount_known.Tie as tie
 
 is-token-requires : tie.Need-is-token-requires
 is-token-requires c κs = search needs

@@ -1,4 +1,4 @@
--- `judge::call::judge` meets its contract: the vault key and the table before are looked at first, and the rest of the steps on what was cut.
+-- `judge::judge` meets its contract: the vault key and the table before are looked at first, and the rest of the steps on what was cut.
 -- Assumes nothing.
 use Prim.Native.Nat.{ℕ}
 use mathlib.Core.Path.{_≡_, sym, ap, _∙_}
@@ -12,8 +12,8 @@ use Rattle.account.specs.declared.Places.{Places}
 use Rattle.account.specs.Table.{cutTable}
 use Rattle.judge.specs.Judge.{Call, callOf, answerOf}
 use Rattle.judge.proofs.Steps.{records-of-row, table-answer, vault-refused, before-refused}
-use Rattle.judge.proofs.call.judge.Statement.{statement}
-use Rattle.judge.proofs.call.judge.Tie as tie
+use Rattle.judge.proofs.judge.Statement.{statement}
+use Rattle.judge.proofs.judge.Tie as tie
 
 -- the call that the arguments make, and the region at entry
 abbrev call-of : tie.Start → Call

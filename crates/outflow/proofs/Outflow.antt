@@ -24,8 +24,7 @@ use Rattle.account.specs.Table.{Record}
 use Rattle.token.specs.declared.Sums.{Sums}
 use Rattle.token.specs.Tokens.{balance}
 use Rattle.token.specs.Views.{sumsOf}
-use Rattle.judge.specs.Judge.{decrease}
-use Rattle.judge.specs.Views.{decreaseOf, solAmount, amountFrom}
+use Rattle.outflow.specs.Outflow.{decrease, decreaseOf, solAmount, amountFrom}
 
 -- ---- one action
 

@@ -1,12 +1,12 @@
--- `judge::call::checks_answer` meets its contract: the programs decide first.
+-- `judge::checks_answer` meets its contract: the programs decide first.
 -- Assumes nothing.
 use mathlib.Core.Path.{sym, ap, _∙_}
 use borrow.Author.Tests.{not-true, not-false}
 use Rattle.answer.specs.Numbers.{accepts}
 use Rattle.judge.proofs.Steps.{checks-refused, checks-thawed, checks-passed}
 use borrow.Author.Needs.{needs}
-use Rattle.judge.proofs.call.checks_answer.Statement.{statement}
-use Rattle.judge.proofs.call.checks_answer.Tie as tie
+use Rattle.judge.proofs.checks_answer.Statement.{statement}
+use Rattle.judge.proofs.checks_answer.Tie as tie
 
 evaluate-pre-actions-requires : tie.Need-evaluate-pre-actions-requires
 evaluate-pre-actions-requires c κs = search needs

@@ -1,8 +1,8 @@
--- `judge::amounts::sol_amount` meets its contract.
+-- `outflow::sol_amount` meets its contract.
 -- Assumes nothing.
-use Rattle.judge.proofs.Outflow.{gross-amount, sol-amount}
-use Rattle.judge.proofs.amounts.sol_amount.Statement.{statement}
-use Rattle.judge.proofs.amounts.sol_amount.Tie as tie
+use Rattle.outflow.proofs.Outflow.{gross-amount, sol-amount}
+use Rattle.outflow.proofs.sol_amount.Statement.{statement}
+use Rattle.outflow.proofs.sol_amount.Tie as tie
 
 returns : tie.Need-returns
 returns c = gross-amount _ _ _ (c .if1 .taken)

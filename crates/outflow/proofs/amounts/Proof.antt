@@ -1,4 +1,4 @@
--- `judge::amounts::amounts` meets its contract. The loop's invariant: the first `i` amounts are laid. The inner loop's: how far the listed mints
+-- `outflow::amounts` meets its contract. The loop's invariant: the first `i` amounts are laid. The inner loop's: how far the listed mints
 -- are searched for the action's; where it is found, its decrease is known.
 -- Assumes nothing.
 use Prim.Native.Nat.{ℕ, _+_, _-_, _<_, _≤_, min}
@@ -12,10 +12,10 @@ use Rattle.account.specs.Views.{recordsIn}
 use Rattle.action.specs.Views.{viewsOf, actionsIn}
 use Rattle.action.proofs.Views.{length-actions}
 use Rattle.token.specs.declared.Sums.{Sums}
-use Rattle.judge.specs.Views.{amountFrom, decreaseOf}
-use Rattle.judge.proofs.Outflow.{laid, amount-laid, all-laid, action-at, found-decrease}
-use Rattle.judge.proofs.amounts.amounts.Statement.{statement}
-use Rattle.judge.proofs.amounts.amounts.Tie as tie
+use Rattle.outflow.specs.Outflow.{amountFrom, decreaseOf}
+use Rattle.outflow.proofs.Outflow.{laid, amount-laid, all-laid, action-at, found-decrease}
+use Rattle.outflow.proofs.amounts.Statement.{statement}
+use Rattle.outflow.proofs.amounts.Tie as tie
 
 abbrev Inv-loop2 : tie.InvT-loop2
 Inv-loop2 region actions before before-places after after-places vault sol gross mints decreases count n list i view mint at₀ k₀ at k =

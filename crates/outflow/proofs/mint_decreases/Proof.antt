@@ -1,4 +1,4 @@
--- `judge::amounts::mint_decreases` meets its contract. The loop's invariant: the decreases of the first `i` mints are laid, whatever mints the two
+-- `outflow::mint_decreases` meets its contract. The loop's invariant: the decreases of the first `i` mints are laid, whatever mints the two
 -- lists of balances are of; the loop itself has no use for the mints.
 -- Assumes nothing.
 use Prim.Native.Nat.{ℕ, _-_, _<_, _≤_, min}
@@ -10,10 +10,10 @@ use lib.ListN.{length, length-map}
 use Rattle.key.specs.Key.{keysIn}
 use Rattle.key.proofs.Laws.{length-keys}
 use Rattle.account.specs.Views.{recordsIn}
-use Rattle.judge.specs.Views.{decreaseOf}
-use Rattle.judge.proofs.Outflow.{laid, amount-laid, all-laid, balancesOf, decrease-at}
-use Rattle.judge.proofs.amounts.mint_decreases.Statement.{statement}
-use Rattle.judge.proofs.amounts.mint_decreases.Tie as tie
+use Rattle.outflow.specs.Outflow.{decreaseOf}
+use Rattle.outflow.proofs.Outflow.{laid, amount-laid, all-laid, balancesOf, decrease-at}
+use Rattle.outflow.proofs.mint_decreases.Statement.{statement}
+use Rattle.outflow.proofs.mint_decreases.Tie as tie
 
 abbrev Inv-loop : tie.InvT-loop
 Inv-loop before before-places after after-places vault had has n list₀ i₀ list i =

@@ -1,4 +1,4 @@
--- `judge::call::judge_after` meets its contract: each step that refuses ends the call, and what passes them is judged from what was cut.
+-- `judge::judge_after` meets its contract: each step that refuses ends the call, and what passes them is judged from what was cut.
 -- Assumes nothing.
 use Prim.Native.Nat.{ℕ}
 use mathlib.Core.Path.{_≡_, refl, sym, ap, _∙_}
@@ -13,11 +13,11 @@ use Rattle.creation.specs.Creation.{storedActions}
 use Rattle.compact.specs.Compact.{decode}
 use Rattle.account.specs.declared.Places.{Places}
 use Rattle.account.specs.Table.{cutTable}
+use Rattle.outflow.proofs.Outflow.{decreased}
 use Rattle.judge.specs.Judge.{Call, callOf, answerOf, readAnswer}
-use Rattle.judge.proofs.Outflow.{decreased}
 use Rattle.judge.proofs.Steps.{records-named, records-after, table-answer, read-answer, region-answer, programs-read, after-refused, instructions-refused, region-refused, judged-cut}
-use Rattle.judge.proofs.call.judge_after.Statement.{statement}
-use Rattle.judge.proofs.call.judge_after.Tie as tie
+use Rattle.judge.proofs.judge_after.Statement.{statement}
+use Rattle.judge.proofs.judge_after.Tie as tie
 
 -- the call that the arguments make, and the region at entry
 abbrev call-of : tie.Start → Call

@@ -1,12 +1,12 @@
--- `judge::call::limits_answer` meets its contract: the SOL rules decide first.
+-- `judge::limits_answer` meets its contract: the SOL rules decide first.
 -- Assumes nothing.
 use mathlib.Core.Path.{sym, ap, _∙_}
 use borrow.Author.Tests.{not-true, not-false}
 use Rattle.answer.specs.Numbers.{accepts}
 use Rattle.judge.proofs.Steps.{limits-refused, limits-decided}
 use borrow.Author.Needs.{needs}
-use Rattle.judge.proofs.call.limits_answer.Statement.{statement}
-use Rattle.judge.proofs.call.limits_answer.Tie as tie
+use Rattle.judge.proofs.limits_answer.Statement.{statement}
+use Rattle.judge.proofs.limits_answer.Tie as tie
 
 class-answer-requires : tie.Need-class-answer-requires
 class-answer-requires c κs = search needs

@@ -22,7 +22,7 @@ ghost use Rattle.token.specs.Views.{sumsOf};
 ghost use Rattle.action.specs.Region.{mostActions};
 ghost use Rattle.action.specs.Fields.{keyOf};
 ghost use Rattle.action.specs.Views.{viewsOf, actionAt, actionsIn};
-ghost use Rattle.judge.specs.Views.{decreaseOf, solAmount, amountFrom};
+ghost use Rattle.outflow.specs.Outflow.{decreaseOf, solAmount, amountFrom};
 
 // How much the vault's balance of a mint went down.
 fn token_decrease(

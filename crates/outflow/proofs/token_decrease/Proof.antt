@@ -1,10 +1,10 @@
--- `judge::amounts::token_decrease` meets its contract.
+-- `outflow::token_decrease` meets its contract.
 -- Assumes nothing.
 use mathlib.Core.Path.{_∙_}
-use Rattle.judge.proofs.Outflow.{mint-decreased}
+use Rattle.outflow.proofs.Outflow.{mint-decreased}
 use borrow.Author.Needs.{needs}
-use Rattle.judge.proofs.amounts.token_decrease.Statement.{statement}
-use Rattle.judge.proofs.amounts.token_decrease.Tie as tie
+use Rattle.outflow.proofs.token_decrease.Statement.{statement}
+use Rattle.outflow.proofs.token_decrease.Tie as tie
 
 balance-requires : tie.Need-balance-requires
 balance-requires c κs = search needs
