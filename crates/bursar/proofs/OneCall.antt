@@ -23,7 +23,8 @@ use Rattle.action.proofs.Changing.{Regular, AllRegular, changed-kind, changed-k
 use Rattle.creation.proofs.Keeping.{window-kept as windowed-is}
 use Rattle.creation.proofs.Theorems.{stored-is-formed, stored-is-regular}
 use Rattle.limit.specs.Limit.{Charge, breaks, isLimit, settled}
-use Rattle.limit.proofs.Taking.{counts, EachKept, Goes, on, anew, left-and-taken, limit-kept, window-goes}
+use Rattle.limit.proofs.Taking.{Goes, on, left-and-taken, limit-kept, window-goes}
+use Rattle.charge.proofs.Accepting.{counts, EachKept}
 use Rattle.outflow.specs.Outflow.{decreaseOf}
 use Rattle.judge.specs.Judge.{Call, recordsBefore, recordsAfter, amountFor, charged, actionsOf, judged, regionAfter}
 use Rattle.judge.proofs.Theorems.{a-refusal-leaves-the-region, writes, an-accepted-call-keeps-the-stored-form, an-accepted-call-keeps-bytes, accepted-charges-keep-their-rules}

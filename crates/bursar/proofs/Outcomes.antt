@@ -42,8 +42,9 @@ use Rattle.lookup.specs.Indexes.{keyAmong, keyAt, resolving}
 use Rattle.token.specs.Tokens.{balance as balanceOf, isCounted, isTokenAccount, mintOf}
 use Rattle.token.specs.Views.{sumsOf}
 use Rattle.token.specs.declared.Sums.{Sums}
-use Rattle.limit.specs.Limit.{changeOf, classAnswer, ruleAnswer}
-use Rattle.limit.specs.Views.{chargesAt, settledAt}
+use Rattle.limit.specs.Limit.{changeOf, ruleAnswer}
+use Rattle.charge.specs.Classes.{classAnswer}
+use Rattle.charge.specs.Views.{chargesAt, settledAt}
 use Rattle.programs.specs.Programs.{programsAnswer}
 use Rattle.freeze.specs.Freeze.{allFrozen}
 use Rattle.outflow.specs.Outflow.{amountFrom}
@@ -404,20 +405,22 @@ pub limit-rule-answer : (region : List ℕ) (view : ActionView) (slot amount : �
     → OneOutcome (λ (r : Answer). r ≡ ruleAnswer slot (record { act = actionAt region view; amount = amount }))
 limit-rule-answer _ _ _ _ _ _ p q = one-outcome p q
 
--- limit::class_answer
-pub limit-class-answer : (region actions amounts : List ℕ) (tokens : Bool) (slot : ℕ)
-    → OneOutcome (λ (r : Answer). r ≡ classAnswer tokens slot (chargesAt region actions amounts))
-limit-class-answer _ _ _ _ _ _ _ p q = one-outcome p q
-
 -- limit::change_of
 pub limit-change-of : (region : List ℕ) (view : ActionView) (slot amount : ℕ)
     → OneOutcome (λ (r : Change). r ≡ changeOf slot (record { act = actionAt region view; amount = amount }))
 limit-change-of _ _ _ _ _ _ p q = one-outcome p q
 
--- limit::settle
-pub limit-settle : (region actions amounts : List ℕ) (slot : ℕ)
+-- ---- charge
+
+-- charge::class_answer
+pub charge-class-answer : (region actions amounts : List ℕ) (tokens : Bool) (slot : ℕ)
+    → OneOutcome (λ (r : Answer). r ≡ classAnswer tokens slot (chargesAt region actions amounts))
+charge-class-answer _ _ _ _ _ _ _ p q = one-outcome p q
+
+-- charge::settle
+pub charge-settle : (region actions amounts : List ℕ) (slot : ℕ)
     → OneOutcome (λ (o : List ℕ). o ≡ settledAt slot actions amounts region)
-limit-settle _ _ _ _ _ _ p q = one-outcome p q
+charge-settle _ _ _ _ _ _ p q = one-outcome p q
 
 -- ---- programs
 

@@ -17,7 +17,8 @@ use Rattle.compact.specs.NamedValues.{namedValues as compactValues}
 use Rattle.compact.proofs.NamedValues.{as-named as compact-as-named}
 use Rattle.account.specs.Table.{cutTable, cutRecords, firstRecord}
 use Rattle.token.specs.Tokens.{balance}
-use Rattle.limit.specs.Limit.{refusalOf, windowOver, base, above, breaks, ruleAnswer, isSol, ofClass, classAnswer, spentChange, isLimit, liveChange, changeOf, settled}
+use Rattle.limit.specs.Limit.{refusalOf, windowOver, base, above, breaks, ruleAnswer, spentChange, isLimit, liveChange, changeOf, settled}
+use Rattle.charge.specs.Classes.{isSol, ofClass, classAnswer}
 use Rattle.freeze.specs.Freeze.{allFrozen}
 use Rattle.programs.specs.Programs.{programsAnswer}
 use Rattle.judge.specs.Judge.{recordsBefore, recordsAfter, amountFor, charged, soundness, rules, steps, judged, regionAfter}

@@ -20,7 +20,6 @@ use Rattle.key.specs.Key.{isAmong, keysIn}
 use Rattle.action.specs.declared.Parsed.{Parsed}
 use Rattle.action.specs.Region.{Action, cut, glue, mostActions}
 use Rattle.mints.specs.Mints.{isListed, listedMints}
-use Rattle.action.specs.declared.ActionView.{ActionView}
 use Rattle.creation.specs.Creation.{inStoredForm, storedActions}
 use Rattle.creation.specs.Views.{storedAnswer}
 use Rattle.action.specs.Views.{placed as placedAt, viewsOf, actionsIn, parsedOf}
@@ -40,9 +39,11 @@ use Rattle.account.specs.Table.{Record, cutTable, recordsOf}
 use Rattle.account.specs.Views.{recordsIn, placesOf}
 use Rattle.account.proofs.Views.{records-of-places}
 use Rattle.token.specs.Views.{sumsOf}
-use Rattle.limit.specs.Limit.{Charge, classAnswer, settled}
-use Rattle.limit.specs.Views.{charges, chargesAt, settledViews, settledAt}
-use Rattle.limit.proofs.Settling.{settle-glued}
+use Rattle.limit.specs.Limit.{Charge, settled}
+use Rattle.charge.specs.Classes.{classAnswer}
+use Rattle.charge.specs.Views.{charges, chargesAt, settledAt}
+use Rattle.charge.proofs.Charging.{charges-map, settle-end, settle-all}
+use Rattle.charge.proofs.Settling.{settle-glued}
 use Rattle.freeze.specs.Freeze.{allFrozen}
 use Rattle.programs.specs.Programs.{programsAnswer}
 use Rattle.outflow.specs.Outflow.{decrease, amountFrom}
@@ -107,12 +108,7 @@ module _ (a : Answer) (out s : List ℕ) where
 -- ---- what was cut
 
 pub no-views-settled : (slot : ℕ) (row amounts s : List ℕ) → length (viewsOf row) ≤ 0 → settledAt slot row amounts s ≡ s
-unfolding settledAt settledViews
-no-views-settled slot row amounts s few = go (viewsOf row) few
-  where
-    go : (vs : List ActionView) → length vs ≤ 0 → settledViews slot vs amounts s ≡ s
-    go [] h = refl
-    go (v ∷ vs) h = absurd (let z : _≡_ {A = ℕ} 0 1 = omega arith in omega arith)
+no-views-settled slot row amounts s few = settle-all slot row amounts s ∙ settle-end slot row amounts 0 s (omega arith)
 
 programs-placed : (at : ℕ) (is : List Instruction) → map (λ (e : Entry). e .program) (placed at is) ≡ map (λ (i : Instruction). i .program) is
 unfolding placed placedOne
@@ -198,11 +194,6 @@ stored-given s (refused r) e h =
     absurd (let z : _≡_ {A = Bool} true false = sym h ∙ ap accepts (stored-refusal s r e) in let n : _≡_ {A = ℕ} 0 1 = cc in omega arith)
 
 -- ---- the charges
-
-charges-map : (f : Action → ℕ) (l : List Action) (ys : List ℕ) → charges l (map f l ++ ys) ≡ map (λ (a : Action). record { act = a; amount = f a }) l
-unfolding charges
-charges-map f [] ys = refl
-charges-map f (a ∷ l) ys = ap (λ (cs : List Charge). record { act = a; amount = f a } ∷ cs) (charges-map f l ys)
 
 -- the amounts that the code has for some actions, from the records before and after
 abbrev pub amountsFrom : Call → List Record → List Record → ℕ → List Action → List ℕ

@@ -15,7 +15,8 @@ use Rattle.mints.specs.Mints.{isListed}
 use Rattle.creation.specs.Creation.{storedActions}
 use Rattle.compact.specs.Compact.{Instruction, Read, decode}
 use Rattle.account.specs.Table.{Record, cutTable, recordsOf}
-use Rattle.limit.specs.Limit.{Charge, classAnswer, settled}
+use Rattle.limit.specs.Limit.{Charge, settled}
+use Rattle.charge.specs.Classes.{classAnswer}
 use Rattle.programs.specs.Programs.{programsAnswer}
 use Rattle.freeze.specs.Freeze.{allFrozen}
 use Rattle.outflow.specs.Outflow.{decrease, amountFrom}

@@ -10,7 +10,8 @@ use Rattle.key.specs.Key.{isAmong, keysIn}
 use Rattle.action.specs.Region.{Action}
 use Rattle.mints.specs.Mints.{listedMints}
 use Rattle.account.specs.Table.{Record}
-use Rattle.limit.specs.Limit.{Charge, classAnswer}
+use Rattle.limit.specs.Limit.{Charge}
+use Rattle.charge.specs.Classes.{classAnswer}
 use Rattle.freeze.specs.Freeze.{allFrozen}
 use Rattle.programs.specs.Programs.{programsAnswer}
 

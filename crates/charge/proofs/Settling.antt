@@ -9,8 +9,8 @@ use Rattle.action.specs.Region.{Action, glueOne, glue}
 use Rattle.action.specs.Views.{actionAt, viewAt, placed, viewsOf, writtenAt}
 use Rattle.action.proofs.Changing.{changed-kind, changed-expires, changed-length}
 use Rattle.action.proofs.Gluing.{glue-append, length-glueOne, glued-action, glued-written}
 use Rattle.limit.specs.Limit.{Charge, changeOf, settled}
-use Rattle.limit.specs.Views.{charges, settledViews, settledAt}
+use Rattle.charge.specs.Views.{charges, settledViews, settledAt}
 
 module _ (slot : ℕ) (c : Charge) where
   pub settled-kind : (settled slot c) .kind ≡ c .act .kind
@@ -24,13 +24,6 @@ module _ (slot : ℕ) (c : Charge) where
   pub settled-length : length ((settled slot c) .payload) ≡ length (c .act .payload)
   unfolding settled
   settled-length = changed-length (changeOf slot c) (c .act)
-
--- the actions of some charges
-pub acts-of : (l : List Action) (xs : List ℕ) → length l ≤ length xs → map (λ (c : Charge). c .act) (charges l xs) ≡ l
-unfolding charges
-acts-of [] xs h = refl
-acts-of (a ∷ l) [] h = absurd (let z : _≡_ {A = ℕ} 0 1 = omega arith in omega arith)
-acts-of (a ∷ l) (x ∷ xs) h = ap (λ (k : List Action). a ∷ k) (acts-of l xs (omega arith))
 
 glue-one : (a : Action) → glue (a ∷ []) ≡ glueOne a
 unfolding glue

@@ -1,9 +1,9 @@
--- `limit::class_rule` meets its contract.
+-- `charge::class_rule` meets its contract.
 -- Assumes nothing.
 use mathlib.Core.Path.{sym, _∙_}
 use borrow.Author.Needs.{needs}
-use Rattle.limit.proofs.class_rule.Statement.{statement}
-use Rattle.limit.proofs.class_rule.Tie as tie
+use Rattle.charge.proofs.class_rule.Statement.{statement}
+use Rattle.charge.proofs.class_rule.Tie as tie
 
 of-class-requires : tie.Need-of-class-requires
 of-class-requires c κs = search needs

@@ -1,9 +1,9 @@
--- `limit::is_sol` meets its contract, by the cases of its tests.
+-- `charge::is_sol` meets its contract, by the cases of its tests.
 -- Assumes nothing.
 use borrow.Author.Tests.{ne-eqb}
-use Rattle.limit.specs.Limit.{isSol}
-use Rattle.limit.proofs.is_sol.Statement.{statement}
-use Rattle.limit.proofs.is_sol.Tie as tie
+use Rattle.charge.specs.Classes.{isSol}
+use Rattle.charge.proofs.is_sol.Statement.{statement}
+use Rattle.charge.proofs.is_sol.Tie as tie
 
 returns : tie.Need-returns
 unfolding isSol

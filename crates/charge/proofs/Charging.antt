@@ -3,7 +3,7 @@
 use mathlib.Core.Path.{_≡_, refl, sym, ap, _∙_}
 use mathlib.Core.Bool.{Bool, true, false, cond}
 use mathlib.Core.Logic.{_⊎_, inl, inr, ⊎-elim}
-use mathlib.Core.List.{List, [], _∷_}
+use mathlib.Core.List.{List, [], _∷_, _++_, map}
 use Prim.Native.Nat.{ℕ, zero, suc, _-_, _<_, _≤_, min}
 use native.Mathlib.Nat.{eq-zero-or-pos}
 use native.Mathlib.Omega.{arith}
@@ -18,8 +18,15 @@ use Rattle.action.specs.Region.{Action}
 use Rattle.action.specs.Fields.{changed}
 use Rattle.action.specs.Views.{viewsOf, zeroView, actionAt, actionsIn, writtenAt}
 use Rattle.action.proofs.Views.{actions-step, length-actions}
-use Rattle.limit.specs.Limit.{Charge, ruleAnswer, ofClass, classAnswer, changeOf, settled}
-use Rattle.limit.specs.Views.{charges, chargesAt, settledViews, settledAt}
+use Rattle.limit.specs.Limit.{Charge, ruleAnswer, changeOf, settled}
+use Rattle.charge.specs.Classes.{ofClass, classAnswer}
+use Rattle.charge.specs.Views.{charges, chargesAt, settledViews, settledAt}
+
+-- the charges of amounts that a function gives, whatever stands past them
+pub charges-map : (f : Action → ℕ) (l : List Action) (ys : List ℕ) → charges l (map f l ++ ys) ≡ map (λ (a : Action). record { act = a; amount = f a }) l
+unfolding charges
+charges-map f [] ys = refl
+charges-map f (a ∷ l) ys = ap (λ (cs : List Charge). record { act = a; amount = f a } ∷ cs) (charges-map f l ys)
 
 drop-charges : (i : ℕ) (l : List Action) (xs : List ℕ) → drop i (charges l xs) ≡ charges (drop i l) (drop i xs)
 unfolding charges

@@ -1,4 +1,4 @@
--- `limit::settle` meets its contract. The loop's invariant: settling the region from `i` on gives what settling the whole gave.
+-- `charge::settle` meets its contract. The loop's invariant: settling the region from `i` on gives what settling the whole gave.
 -- Assumes nothing.
 use Prim.Native.Nat.{_-_, _≤_, min}
 use mathlib.Core.Path.{_≡_, refl, sym, _∙_}
@@ -6,10 +6,10 @@ use native.Mathlib.Numerals.{add-one}
 use native.Mathlib.Omega.{arith}
 use lib.ListN.{length, drop}
 use Rattle.action.specs.Views.{viewsOf}
-use Rattle.limit.specs.Views.{settledViews}
-use Rattle.limit.proofs.Charging.{settle-step, settle-end, settle-all}
-use Rattle.limit.proofs.settle.Statement.{statement}
-use Rattle.limit.proofs.settle.Tie as tie
+use Rattle.charge.specs.Views.{settledViews}
+use Rattle.charge.proofs.Charging.{settle-step, settle-end, settle-all}
+use Rattle.charge.proofs.settle.Statement.{statement}
+use Rattle.charge.proofs.settle.Tie as tie
 
 abbrev Inv-loop : tie.InvT-loop
 Inv-loop region₀ actions amounts slot n i₀ region i =

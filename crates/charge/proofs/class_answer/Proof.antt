@@ -1,4 +1,4 @@
--- `limit::class_answer` meets its contract. The loop's invariant: the charges from `i` on answer what all do.
+-- `charge::class_answer` meets its contract. The loop's invariant: the charges from `i` on answer what all do.
 -- Assumes nothing.
 use Prim.Native.Nat.{_-_, _≤_, min}
 use mathlib.Core.Path.{_≡_, refl, sym, _∙_}
@@ -7,11 +7,11 @@ use native.Mathlib.Omega.{arith}
 use lib.ListN.{length, drop}
 use borrow.Author.Tests.{not-true, not-false}
 use Rattle.action.specs.Views.{viewsOf, actionAt}
-use Rattle.limit.specs.Limit.{classAnswer}
-use Rattle.limit.specs.Views.{chargesAt}
-use Rattle.limit.proofs.Charging.{class-refused, class-passed, class-end}
-use Rattle.limit.proofs.class_answer.Statement.{statement}
-use Rattle.limit.proofs.class_answer.Tie as tie
+use Rattle.charge.specs.Classes.{classAnswer}
+use Rattle.charge.specs.Views.{chargesAt}
+use Rattle.charge.proofs.Charging.{class-refused, class-passed, class-end}
+use Rattle.charge.proofs.class_answer.Statement.{statement}
+use Rattle.charge.proofs.class_answer.Tie as tie
 
 abbrev Inv-loop : tie.InvT-loop
 Inv-loop region actions amounts tokens slot n i₀ i =

@@ -1,9 +1,9 @@
--- `limit::of_class` meets its contract, class by class.
+-- `charge::of_class` meets its contract, class by class.
 -- Assumes nothing.
-use Rattle.limit.specs.Limit.{ofClass}
+use Rattle.charge.specs.Classes.{ofClass}
 use borrow.Author.Needs.{needs}
-use Rattle.limit.proofs.of_class.Statement.{statement}
-use Rattle.limit.proofs.of_class.Tie as tie
+use Rattle.charge.proofs.of_class.Statement.{statement}
+use Rattle.charge.proofs.of_class.Tie as tie
 
 is-token-requires : tie.Need-is-token-requires
 is-token-requires c κs = search needs
