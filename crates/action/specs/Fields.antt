@@ -1,6 +1,6 @@
 -- The fields of an action's data: a mint or a program of 32 bytes first, where the type has one, then numbers of 8 bytes.
 -- Assumes nothing.
-use Prim.Native.Nat.{ℕ, _+_}
+use Prim.Native.Nat.{ℕ}
 use mathlib.Core.Bool.{Bool, cond, _||_}
 use mathlib.Core.List.{List, _++_}
 use lib.Dec.{eqb}

@@ -16,17 +16,18 @@ use Rattle.creation.specs.Creation.{formOf, allKeep, keeps, bothLists, solRepea
 use Rattle.compact.specs.Compact.{mostInstructions, byte, front, decodeOne, decodeEach, decode}
 use Rattle.table.specs.Table.{cutTable, cutRecords, firstRecord}
 use Rattle.balance.specs.Balance.{balance}
-use Rattle.limit.specs.Limit.{refusalOf, windowOver, base, above, breaks, ruleAnswer, isSol, ofClass, classAnswer, spentChange, isLimit, liveChange, changeOf, settled}
+use Rattle.limit.specs.Limit.{refusalOf, windowOver, base, above, breaks, ruleAnswer, spentChange, isLimit, liveChange, changeOf, settled}
+use Rattle.charge.specs.Classes.{isSol, ofClass, classAnswer}
 use Rattle.freeze.specs.Freeze.{allFrozen}
 use Rattle.programs.specs.Programs.{programsAnswer}
-use Rattle.judge.specs.Judge.{recordsBefore, recordsAfter, decrease, amountFor, charged, soundness, rules, steps, judged, regionAfter}
+use Rattle.judge.specs.Judge.{recordsBefore, recordsAfter, amountFor, charged, soundness, rules, steps, judged, regionAfter}
 use Rattle.judge.specs.NamedValues.{called, spending}
 use Rattle.bursar.specs.Run.{sol, tokens, afterRun, numbersOf, takenBy, takenWhere}
 use Rattle.bursar.specs.Limits.{speaksOf, firstThat, limitOf, recurringOf}
 use Rattle.bursar.specs.Example.{holding, morning, exampleValues, twoMints}
 
 pub as-named : AsNamed exampleValues
-unfolding exampleValues holding morning called spending afterRun numbersOf takenBy takenWhere speaksOf firstThat recurringOf judged regionAfter steps soundness rules charged amountFor decrease recordsBefore recordsAfter programsAnswer allFrozen classAnswer ofClass isSol ruleAnswer breaks above base windowOver refusalOf settled changeOf liveChange isLimit spentChange changed withAmounts storedActions inStoredForm creation formOf allKeep keeps bothLists solRepeats howOften mintRepeats mintAgain isToken isRecurring keyOf amountsOf isListed expired cut first statedLength dataLength sizeAmong glue glueOne number bytesOf numberAt cappedSum flooredDifference withNumberAt highest firstRefusal sameKey sameBytes cutTable cutRecords firstRecord balance mostInstructions byte front decodeOne decodeEach decode
+unfolding exampleValues holding morning called spending afterRun numbersOf takenBy takenWhere speaksOf firstThat recurringOf judged regionAfter steps soundness rules charged amountFor recordsBefore recordsAfter programsAnswer allFrozen classAnswer ofClass isSol ruleAnswer breaks above base windowOver refusalOf settled changeOf liveChange isLimit spentChange changed withAmounts storedActions inStoredForm creation formOf allKeep keeps bothLists solRepeats howOften mintRepeats mintAgain isToken isRecurring keyOf amountsOf isListed expired cut first statedLength dataLength sizeAmong glue glueOne number bytesOf numberAt cappedSum flooredDifference withNumberAt highest firstRefusal sameKey sameBytes cutTable cutRecords firstRecord balance mostInstructions byte front decodeOne decodeEach decode
 as-named = (refl, (refl, (refl, (refl, (refl, tt)))))
 
 -- both limits are there at the opening

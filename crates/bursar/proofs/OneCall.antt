@@ -22,10 +22,11 @@ use Rattle.creation.specs.Creation.{keeps, allKeep, storedActions}
 use Rattle.action.proofs.Changing.{Regular, AllRegular, changed-kind, changed-key, mint-there, window-kept}
 use Rattle.creation.proofs.Keeping.{window-kept as windowed-is}
 use Rattle.creation.proofs.Theorems.{stored-is-formed, stored-is-regular}
-use Rattle.balance.specs.Balance.{balance}
 use Rattle.limit.specs.Limit.{Charge, breaks, isLimit, settled}
-use Rattle.limit.proofs.Taking.{counts, EachKept, Goes, on, anew, left-and-taken, limit-kept, window-goes}
-use Rattle.judge.specs.Judge.{Call, recordsBefore, recordsAfter, decrease, amountFor, charged, actionsOf, judged, regionAfter}
+use Rattle.limit.proofs.Taking.{Goes, on, left-and-taken, limit-kept, window-goes}
+use Rattle.charge.proofs.Accepting.{counts, EachKept}
+use Rattle.outflow.specs.Outflow.{decreaseOf}
+use Rattle.judge.specs.Judge.{Call, recordsBefore, recordsAfter, amountFor, charged, actionsOf, judged, regionAfter}
 use Rattle.judge.proofs.Theorems.{a-refusal-leaves-the-region, writes, an-accepted-call-keeps-the-stored-form, an-accepted-call-keeps-bytes, accepted-charges-keep-their-rules}
 use Rattle.bursar.specs.Run.{Fund, sol, tokens, takenBy}
 use Rattle.bursar.specs.Limits.{actionsIn, speaksOf, firstThat}
@@ -153,7 +154,7 @@ module _ {s t : ℕ} (pair : Pair s t) where
       let (kind, key) = and-eq-true-iff (eqb (a .kind) t) _ .0 e in
       let token : isToken (a .kind) ≡ true = ap isToken (eqb-true _ _ kind) ∙ pair .token in
       rw token
-      (ap (λ (m : List ℕ). decrease (balance (call .vault) m (recordsBefore call)) (balance (call .vault) m (recordsAfter call))) (same-key-eq _ _ key))
+      (ap (decreaseOf (call .vault) (recordsBefore call) (recordsAfter call)) (same-key-eq _ _ key))
 
   -- its type is one of the two
   pub speaks-as : (fund : Fund) (a : Action) (P : ℕ → Type 0) → P s → P t → speaksOf s t fund a ≡ true → P (a .kind)

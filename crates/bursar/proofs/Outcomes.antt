@@ -47,12 +47,13 @@ use Rattle.token.specs.Tokens.{amountOf, isCounted, isTokenAccount, mintOf}
 use Rattle.balance.specs.Balance.{balance as balanceOf}
 use Rattle.balance.specs.Views.{sumsOf}
 use Rattle.balance.specs.declared.Sums.{Sums}
-use Rattle.limit.specs.Limit.{changeOf, classAnswer, ruleAnswer}
-use Rattle.limit.specs.Views.{chargesAt, settledAt}
+use Rattle.limit.specs.Limit.{changeOf, ruleAnswer}
+use Rattle.charge.specs.Classes.{classAnswer}
+use Rattle.charge.specs.Views.{chargesAt, settledAt}
 use Rattle.programs.specs.Programs.{programsAnswer}
 use Rattle.freeze.specs.Freeze.{allFrozen}
+use Rattle.outflow.specs.Outflow.{amountFrom}
 use Rattle.judge.specs.Judge.{callOf as judge-callOf, judged, regionAfter}
-use Rattle.judge.specs.Views.{amountFrom}
 use Rattle.frame.specs.Frame.{callOf as frame-callOf, noTally, openingOf, partIn, partsToRead, tallied}
 use Rattle.frame.specs.declared.Frame.{Frame}
 use Rattle.frame.specs.declared.Opening.{Opening}
@@ -422,20 +423,22 @@ pub limit-rule-answer : (region : List ℕ) (view : ActionView) (slot amount : �
     → OneOutcome (λ (r : Answer). r ≡ ruleAnswer slot (record { act = actionAt region view; amount = amount }))
 limit-rule-answer _ _ _ _ _ _ p q = one-outcome p q
 
--- limit::class_answer
-pub limit-class-answer : (region actions amounts : List ℕ) (tokens : Bool) (slot : ℕ)
-    → OneOutcome (λ (r : Answer). r ≡ classAnswer tokens slot (chargesAt region actions amounts))
-limit-class-answer _ _ _ _ _ _ _ p q = one-outcome p q
-
 -- limit::change_of
 pub limit-change-of : (region : List ℕ) (view : ActionView) (slot amount : ℕ)
     → OneOutcome (λ (r : Change). r ≡ changeOf slot (record { act = actionAt region view; amount = amount }))
 limit-change-of _ _ _ _ _ _ p q = one-outcome p q
 
--- limit::settle
-pub limit-settle : (region actions amounts : List ℕ) (slot : ℕ)
+-- ---- charge
+
+-- charge::class_answer
+pub charge-class-answer : (region actions amounts : List ℕ) (tokens : Bool) (slot : ℕ)
+    → OneOutcome (λ (r : Answer). r ≡ classAnswer tokens slot (chargesAt region actions amounts))
+charge-class-answer _ _ _ _ _ _ _ p q = one-outcome p q
+
+-- charge::settle
+pub charge-settle : (region actions amounts : List ℕ) (slot : ℕ)
     → OneOutcome (λ (o : List ℕ). o ≡ settledAt slot actions amounts region)
-limit-settle _ _ _ _ _ _ p q = one-outcome p q
+charge-settle _ _ _ _ _ _ p q = one-outcome p q
 
 -- ---- programs
 
@@ -451,17 +454,19 @@ pub freeze-verify-token-authorities-unchanged : (before «before_places» after 
     → OneOutcome (λ (r : Bool). r ≡ allFrozen vault (λ (mint : List ℕ). isAmong mint (keysIn mints)) (recordsIn after «after_places») (recordsIn before «before_places»))
 freeze-verify-token-authorities-unchanged _ _ _ _ _ _ _ _ p q = one-outcome p q
 
+-- ---- outflow
+
+-- outflow::amounts
+pub outflow-amounts : (region actions before «before_places» after «after_places» vault : List ℕ) (sol gross : ℕ) (mints : Keys)
+    → OneOutcome (λ (r : Sums). r ≡ sumsOf (map (amountFrom vault (recordsIn before «before_places») (recordsIn after «after_places») sol gross) (actionsIn region actions)))
+outflow-amounts _ _ _ _ _ _ _ _ _ _ _ _ p q = one-outcome p q
+
 -- ---- judge
 
--- judge::amounts::amounts
-pub judge-amounts-amounts : (region actions before «before_places» after «after_places» vault : List ℕ) (sol gross : ℕ) (mints : Keys)
-    → OneOutcome (λ (r : Sums). r ≡ sumsOf (map (amountFrom vault (recordsIn before «before_places») (recordsIn after «after_places») sol gross) (actionsIn region actions)))
-judge-amounts-amounts _ _ _ _ _ _ _ _ _ _ _ _ p q = one-outcome p q
-
--- judge::call::judge
-pub judge-call-judge : (region before after instructions vault : List ℕ) (slot «lamports_before» «lamports_after» gross : ℕ)
+-- judge::judge
+pub judge-judge : (region before after instructions vault : List ℕ) (slot «lamports_before» «lamports_after» gross : ℕ)
     → OneOutcome (λ (o : Answer × List ℕ). (o .0 ≡ judged region (judge-callOf before after instructions vault slot «lamports_before» «lamports_after» gross)) × (o .1 ≡ regionAfter region (judge-callOf before after instructions vault slot «lamports_before» «lamports_after» gross)))
-judge-call-judge _ _ _ _ _ _ _ _ _ _ _ p q = one-outcome (both p) (both q)
+judge-judge _ _ _ _ _ _ _ _ _ _ _ p q = one-outcome (both p) (both q)
 
 -- ---- thimbleford
 

@@ -21,7 +21,7 @@ use Rattle.action.proofs.Changing.{mint-there, changed-kind, changed-expires, c
 use Rattle.creation.proofs.Theorems.{Formed}
 use Rattle.limit.specs.Limit.{isLimit, liveChange, changeOf}
 use Rattle.limit.proofs.Rules.{change-none}
-use Rattle.limit.proofs.Taking.{counts, limit-kept}
+use Rattle.limit.proofs.Taking.{limit-kept}
 use Rattle.judge.specs.Judge.{Call, amountFor, judged, regionAfter}
 use Rattle.judge.proofs.Theorems.{a-refusal-leaves-the-region, writes}
 use Rattle.bursar.specs.Run.{Fund, sol, tokens}

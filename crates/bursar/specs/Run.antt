@@ -7,8 +7,8 @@ use mathlib.Core.List.{List, [], _∷_}
 use Rattle.answer.specs.Numbers.{accepts}
 use Rattle.number.specs.Number.{Bytes, highest}
 use Rattle.creation.specs.Creation.{creation}
-use Rattle.balance.specs.Balance.{balance}
-use Rattle.judge.specs.Judge.{Call, recordsBefore, recordsAfter, decrease, judged, regionAfter}
+use Rattle.judge.specs.Judge.{Call, recordsBefore, recordsAfter, judged, regionAfter}
+use Rattle.outflow.specs.Outflow.{decrease, decreaseOf}
 
 -- a region, as bytes, that creation accepted
 abbrev pub Created : List ℕ → Type 0
@@ -37,7 +37,7 @@ pub data Fund : Type 0 where
 -- what a call takes from a fund: how far the vault's lamports, or its balance of the mint, went down
 unfoldable pub takenBy : Fund → Call → ℕ
 takenBy sol call = decrease (call .lamportsBefore) (call .lamportsAfter)
-takenBy (tokens mint) call = decrease (balance (call .vault) mint (recordsBefore call)) (balance (call .vault) mint (recordsAfter call))
+takenBy (tokens mint) call = decreaseOf (call .vault) (recordsBefore call) (recordsAfter call) mint
 
 -- what the accepted calls of a run take from a fund, of those that leave a region that passes a test
 unfoldable pub takenWhere : (List ℕ → Bool) → Fund → List ℕ → List Call → ℕ

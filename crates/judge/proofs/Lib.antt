@@ -1,4 +1,3 @@
 pub mod NamedValues
-pub mod Outflow
 pub mod Steps
 pub mod Theorems

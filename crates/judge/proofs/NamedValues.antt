@@ -18,10 +18,11 @@ use Rattle.compact.specs.NamedValues.{namedValues as compactValues}
 use Rattle.compact.proofs.NamedValues.{as-named as compact-as-named}
 use Rattle.table.specs.Table.{cutTable, cutRecords, firstRecord}
 use Rattle.balance.specs.Balance.{balance}
-use Rattle.limit.specs.Limit.{refusalOf, windowOver, base, above, breaks, ruleAnswer, isSol, ofClass, classAnswer, spentChange, isLimit, liveChange, changeOf, settled}
+use Rattle.limit.specs.Limit.{refusalOf, windowOver, base, above, breaks, ruleAnswer, spentChange, isLimit, liveChange, changeOf, settled}
+use Rattle.charge.specs.Classes.{isSol, ofClass, classAnswer}
 use Rattle.freeze.specs.Freeze.{allFrozen}
 use Rattle.programs.specs.Programs.{programsAnswer}
-use Rattle.judge.specs.Judge.{recordsBefore, recordsAfter, decrease, amountFor, charged, soundness, rules, steps, judged, regionAfter}
+use Rattle.judge.specs.Judge.{recordsBefore, recordsAfter, amountFor, charged, soundness, rules, steps, judged, regionAfter}
 use Rattle.judge.specs.NamedValues.{one, left, recurring, called, spending, outcome, callValues, namedValues}
 
 both : (vs ws : List NamedValue) → AsNamed vs → AsNamed ws → AsNamed (vs ++ ws)
@@ -29,7 +30,7 @@ both [] ws a b = b
 both (v ∷ vs) ws a b = (a .0, both vs ws (a .1) b)
 
 calls-as-named : AsNamed callValues
-unfolding callValues one left recurring called spending outcome judged regionAfter steps soundness rules charged amountFor decrease recordsBefore recordsAfter programsAnswer allFrozen classAnswer ofClass isSol ruleAnswer breaks above base windowOver refusalOf settled changeOf liveChange isLimit spentChange changed storedActions inStoredForm formOf allKeep keeps bothLists solRepeats howOften mintRepeats mintAgain isToken isRecurring keyOf amountsOf isListed expired cut first statedLength dataLength sizeAmong glue glueOne number bytesOf numberAt cappedSum flooredDifference withNumberAt highest firstRefusal sameKey sameBytes cutTable cutRecords firstRecord balance mostInstructions byte front decodeOne decodeEach decode
+unfolding callValues one left recurring called spending outcome judged regionAfter steps soundness rules charged amountFor recordsBefore recordsAfter programsAnswer allFrozen classAnswer ofClass isSol ruleAnswer breaks above base windowOver refusalOf settled changeOf liveChange isLimit spentChange changed storedActions inStoredForm formOf allKeep keeps bothLists solRepeats howOften mintRepeats mintAgain isToken isRecurring keyOf amountsOf isListed expired cut first statedLength dataLength sizeAmong glue glueOne number bytesOf numberAt cappedSum flooredDifference withNumberAt highest firstRefusal sameKey sameBytes cutTable cutRecords firstRecord balance mostInstructions byte front decodeOne decodeEach decode
 calls-as-named = (refl, (refl, (refl, (refl, (refl, (refl, (refl, (refl, (refl, (refl, (refl, (refl, (refl, tt)))))))))))))
 
 pub as-named : AsNamed namedValues

@@ -21,7 +21,6 @@ use Rattle.action.specs.Action.{Action}
 use Rattle.region.specs.declared.Parsed.{Parsed}
 use Rattle.region.specs.Region.{cut, glue, mostActions}
 use Rattle.mints.specs.Mints.{isListed, listedMints}
-use Rattle.action.specs.declared.ActionView.{ActionView}
 use Rattle.creation.specs.Creation.{inStoredForm, storedActions}
 use Rattle.creation.specs.Views.{storedAnswer}
 use Rattle.region.specs.Views.{placed as placedAt, viewsOf, actionsIn, parsedOf}
@@ -43,13 +42,16 @@ use Rattle.account.specs.Views.{recordsIn}
 use Rattle.table.specs.Views.{placesOf}
 use Rattle.table.proofs.Views.{records-of-places}
 use Rattle.balance.specs.Views.{sumsOf}
-use Rattle.limit.specs.Limit.{Charge, classAnswer, settled}
-use Rattle.limit.specs.Views.{charges, chargesAt, settledViews, settledAt}
-use Rattle.limit.proofs.Settling.{settle-glued}
+use Rattle.limit.specs.Limit.{Charge, settled}
+use Rattle.charge.specs.Classes.{classAnswer}
+use Rattle.charge.specs.Views.{charges, chargesAt, settledAt}
+use Rattle.charge.proofs.Charging.{charges-map, settle-end, settle-all}
+use Rattle.charge.proofs.Settling.{settle-glued}
 use Rattle.freeze.specs.Freeze.{allFrozen}
 use Rattle.programs.specs.Programs.{programsAnswer}
-use Rattle.judge.specs.Judge.{Call, answerOf, recordsBefore, recordsAfter, programsOf, readAnswer, actionsOf, decrease, amountFor, charged, soundness, rules, steps, judged, regionAfter}
-use Rattle.judge.specs.Views.{decreaseOf, solAmount, amountFrom, frozenFrom, checksFrom, limitsFrom, rulesFrom}
+use Rattle.outflow.specs.Outflow.{decrease, amountFrom}
+use Rattle.judge.specs.Judge.{Call, answerOf, recordsBefore, recordsAfter, programsOf, readAnswer, actionsOf, amountFor, charged, soundness, rules, steps, judged, regionAfter}
+use Rattle.judge.specs.Views.{frozenFrom, checksFrom, limitsFrom, rulesFrom}
 use Rattle.freeze.proofs.Freezing.{frozen-alike}
 
 -- ---- steps 5 to 8, from what was cut
@@ -109,12 +111,7 @@ module _ (a : Answer) (out s : List ℕ) where
 -- ---- what was cut
 
 pub no-views-settled : (slot : ℕ) (row amounts s : List ℕ) → length (viewsOf row) ≤ 0 → settledAt slot row amounts s ≡ s
-unfolding settledAt settledViews
-no-views-settled slot row amounts s few = go (viewsOf row) few
-  where
-    go : (vs : List ActionView) → length vs ≤ 0 → settledViews slot vs amounts s ≡ s
-    go [] h = refl
-    go (v ∷ vs) h = absurd (let z : _≡_ {A = ℕ} 0 1 = omega arith in omega arith)
+no-views-settled slot row amounts s few = settle-all slot row amounts s ∙ settle-end slot row amounts 0 s (omega arith)
 
 programs-placed : (at : ℕ) (is : List Instruction) → map (λ (e : Entry). e .program) (placed at is) ≡ map (λ (i : Instruction). i .program) is
 unfolding placed placedOne
@@ -201,11 +198,6 @@ stored-given s (refused r) e h =
 
 -- ---- the charges
 
-charges-map : (f : Action → ℕ) (l : List Action) (ys : List ℕ) → charges l (map f l ++ ys) ≡ map (λ (a : Action). record { act = a; amount = f a }) l
-unfolding charges
-charges-map f [] ys = refl
-charges-map f (a ∷ l) ys = ap (λ (cs : List Charge). record { act = a; amount = f a } ∷ cs) (charges-map f l ys)
-
 -- the amounts that the code has for some actions, from the records before and after
 abbrev pub amountsFrom : Call → List Record → List Record → ℕ → List Action → List ℕ
 amountsFrom call before after sol l = sumsOf (map (amountFrom (call .vault) before after sol (call .gross)) l) .list
@@ -215,7 +207,7 @@ amountsFor call l = amountsFrom call (recordsBefore call) (recordsAfter call) (d
 
 -- those of at most sixteen actions are there
 amounts-there : (call : Call) (l : List Action) → length l ≤ 16 → amountsFor call l ≡ map (amountFor call) l ++ replicate (16 - length l) 0
-unfolding sumsOf amountFor amountFrom decreaseOf solAmount
+unfolding sumsOf amountFor
 amounts-there call l few =
     let all = map (amountFor call) l in
     let size : length all ≡ length l = simp length-map in

@@ -27,8 +27,9 @@ use Rattle.account.specs.Record.{Record}
 use Rattle.table.specs.Table.{cutTable}
 use Rattle.lookup.specs.Indexes.{keyAmong}
 use Rattle.table.proofs.Theorems.{every-refusal-of-a-table-is-13}
-use Rattle.limit.specs.Limit.{Charge, refusalOf, breaks, ruleAnswer, ofClass, classAnswer, changeOf, settled}
-use Rattle.limit.proofs.Taking.{EachKept, each-kept}
+use Rattle.limit.specs.Limit.{Charge, refusalOf, breaks, ruleAnswer, changeOf, settled}
+use Rattle.charge.specs.Classes.{ofClass, classAnswer}
+use Rattle.charge.proofs.Accepting.{EachKept, each-kept}
 use Rattle.freeze.specs.Freeze.{allFrozen}
 use Rattle.programs.specs.Programs.{inLiveList, listsAnswer, programAnswer, programsAnswer}
 use Rattle.judge.specs.Judge.{Call, answerOf, recordsBefore, recordsAfter, programsOf, readAnswer, actionsOf, amountFor, charged, soundness, rules, steps, judged, regionAfter}

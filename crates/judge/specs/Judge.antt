@@ -9,20 +9,19 @@ use lib.ListN.{length}
 use Rattle.answer.specs.declared.Answer.{Answer}
 use Rattle.answer.specs.Numbers.{answer, accepted, accepts, firstRefusal, refuseIf, badTable, invalidInstructionData, sessionTokenAuthorityChanged}
 use Rattle.answer.specs.Refusable.{Refusable, given, refused}
-use Rattle.number.specs.Number.{flooredDifference}
 use Rattle.key.specs.Key.{keyLength}
-use Rattle.action.specs.Action.{Action, solMaxPerTx}
-use Rattle.action.specs.Fields.{isToken, keyOf}
+use Rattle.action.specs.Action.{Action}
 use Rattle.region.specs.Region.{glue}
 use Rattle.mints.specs.Mints.{isListed}
 use Rattle.creation.specs.Creation.{storedActions}
 use Rattle.compact.specs.Compact.{Instruction, Read, decode}
 use Rattle.account.specs.Record.{Record}
 use Rattle.table.specs.Table.{cutTable, recordsOf}
-use Rattle.balance.specs.Balance.{balance}
-use Rattle.limit.specs.Limit.{Charge, classAnswer, settled}
+use Rattle.limit.specs.Limit.{Charge, settled}
+use Rattle.charge.specs.Classes.{classAnswer}
 use Rattle.programs.specs.Programs.{programsAnswer}
 use Rattle.freeze.specs.Freeze.{allFrozen}
+use Rattle.outflow.specs.Outflow.{decrease, amountFrom}
 
 -- what a judged call is given besides the region
 pub record Call : Type 0 where
@@ -75,17 +74,11 @@ abbrev pub actionsOf : Refusable (List Action) → List Action
 actionsOf (given l) = l
 actionsOf (refused r) = []
 
--- how much a balance went down
-unfoldable pub decrease : ℕ → ℕ → ℕ
-decrease before after = flooredDifference before after
-
 -- the amount that an action's rule looks at: the decrease of its mint's balance; for SolMaxPerTx the gross outflow; else the decrease in lamports
 unfoldable pub amountFor : Call → Action → ℕ
-unfolding decrease recordsBefore recordsAfter
+unfolding recordsBefore recordsAfter decrease amountFrom
 amountFor call a =
-    cond (isToken (a .kind))
-    (decrease (balance (call .vault) (keyOf a) (recordsBefore call)) (balance (call .vault) (keyOf a) (recordsAfter call)))
-    (cond (eqb (a .kind) solMaxPerTx) (call .gross) (decrease (call .lamportsBefore) (call .lamportsAfter)))
+    amountFrom (call .vault) (recordsBefore call) (recordsAfter call) (decrease (call .lamportsBefore) (call .lamportsAfter)) (call .gross) a
 
 -- each action with its amount
 unfoldable pub charged : Call → List Action → List Charge

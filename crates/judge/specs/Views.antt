@@ -1,36 +1,19 @@
 -- The values that the code hands on between steps.
 -- Assumes nothing.
 use Prim.Native.Nat.{ℕ}
-use mathlib.Core.Bool.{Bool, true, false, not, cond}
+use mathlib.Core.Bool.{Bool, true, false, not}
 use mathlib.Core.List.{List, [], _∷_}
-use lib.Dec.{eqb}
 use Rattle.answer.specs.declared.Answer.{Answer}
 use Rattle.answer.specs.Numbers.{answer, accepted, firstRefusal, refuseIf, sessionTokenAuthorityChanged}
 use Rattle.keys.specs.declared.Keys.{Keys}
 use Rattle.keys.specs.Keys.{isAmong, keysIn}
-use Rattle.action.specs.Action.{Action, solMaxPerTx}
-use Rattle.action.specs.Fields.{isToken, keyOf}
+use Rattle.action.specs.Action.{Action}
 use Rattle.mints.specs.Mints.{listedMints}
 use Rattle.account.specs.Record.{Record}
-use Rattle.balance.specs.Balance.{balance}
-use Rattle.limit.specs.Limit.{Charge, classAnswer}
+use Rattle.limit.specs.Limit.{Charge}
+use Rattle.charge.specs.Classes.{classAnswer}
 use Rattle.freeze.specs.Freeze.{allFrozen}
-use Rattle.judge.specs.Judge.{decrease}
 use Rattle.programs.specs.Programs.{programsAnswer}
-
--- how much a mint's balance went down
-unfoldable pub decreaseOf : List ℕ → List Record → List Record → List ℕ → ℕ
-decreaseOf vault before after mint = decrease (balance vault mint before) (balance vault mint after)
-
--- what the rule of a type on SOL looks at
-unfoldable pub solAmount : ℕ → ℕ → ℕ → ℕ
-solAmount sol gross kind = cond (eqb kind solMaxPerTx) gross sol
-
--- the amount that an action's rule looks at, from the records and the SOL amounts
-unfoldable pub amountFrom : List ℕ → List Record → List Record → ℕ → ℕ → Action → ℕ
-unfolding decreaseOf solAmount
-amountFrom vault before after sol gross a =
-    cond (isToken (a .kind)) (decreaseOf vault before after (keyOf a)) (solAmount sol gross (a .kind))
 
 -- whether the authorities of the accounts of some mints stay as they were
 unfoldable pub frozenFrom : List ℕ → List Record → List Record → Keys → Bool

@@ -1,4 +1,2 @@
-pub mod Charging
 pub mod Rules
-pub mod Settling
 pub mod Taking

@@ -9,7 +9,6 @@ use borrow.Author.Tests.{lt-ltb, le-ltb, ne-eqb}
 use lib.Dec.{ltb}
 use Rattle.answer.specs.Numbers.{answer, accepted}
 use Rattle.number.specs.Number.{cappedSum, flooredDifference}
-use Rattle.action.specs.declared.Change.{Change}
 use Rattle.action.specs.declared.Change.the-variants.{Nothing, Remaining, Spent}
 use Rattle.action.specs.Action.{Action, expired}
 use Rattle.action.specs.Fields.{isRecurring, amountsOf, remaining, limit, spent, window, lastReset}

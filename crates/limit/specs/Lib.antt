@@ -1,2 +1,1 @@
 pub mod Limit
-pub mod Views

@@ -1,16 +1,16 @@
 -- The rule of one limit, for SOL and tokens alike: an amount against an action's amounts at a slot, and what is written when it is kept.
 -- Assumes nothing.
 use Prim.Native.Nat.{ℕ, _*_, _/_}
-use mathlib.Core.Bool.{Bool, true, false, not, cond, _&&_, _||_}
-use mathlib.Core.List.{List, map}
+use mathlib.Core.Bool.{Bool, not, cond, _&&_, _||_}
+use mathlib.Core.List.{List}
 use lib.Dec.{eqb, ltb}
 use Rattle.answer.specs.declared.Answer.{Answer}
-use Rattle.answer.specs.Numbers.{answer, accepted, firstRefusal, refuseIf, actionSolMaxPerTxExceeded, actionSolLimitExceeded, actionSolRecurringLimitExceeded, actionTokenMaxPerTxExceeded, actionTokenLimitExceeded, actionTokenRecurringLimitExceeded}
+use Rattle.answer.specs.Numbers.{accepted, refuseIf, actionSolMaxPerTxExceeded, actionSolLimitExceeded, actionSolRecurringLimitExceeded, actionTokenMaxPerTxExceeded, actionTokenLimitExceeded, actionTokenRecurringLimitExceeded}
 use Rattle.number.specs.Number.{cappedSum, flooredDifference}
 use Rattle.action.specs.declared.Change.{Change}
 use Rattle.action.specs.declared.Change.the-variants.{Nothing, Remaining, Spent}
 use Rattle.action.specs.Action.{Action, expired, solLimit, solRecurringLimit, solMaxPerTx, tokenLimit, tokenRecurringLimit, tokenMaxPerTx}
-use Rattle.action.specs.Fields.{isToken, isRecurring, amountsOf, remaining, limit, spent, window, lastReset, changed}
+use Rattle.action.specs.Fields.{isRecurring, amountsOf, remaining, limit, spent, window, lastReset, changed}
 
 -- an action and the amount that its rule looks at
 pub record Charge : Type 0 where
@@ -51,22 +51,6 @@ breaks slot amount a = ltb 0 amount && (expired (a .expires) slot || above slot 
 unfoldable pub ruleAnswer : ℕ → Charge → Answer
 unfolding breaks refusalOf
 ruleAnswer slot c = refuseIf (breaks slot (c .amount) (c .act)) (refusalOf (c .act .kind))
-
--- the SOL types
-unfoldable pub isSol : ℕ → Bool
-isSol kind = eqb kind solLimit || eqb kind solRecurringLimit || eqb kind solMaxPerTx
-
--- whether a type is a token's, or is SOL's
-unfoldable pub ofClass : Bool → ℕ → Bool
-unfolding isSol
-ofClass true kind = isToken kind
-ofClass false kind = isSol kind
-
--- what the rules of one class answer, in region order
-unfoldable pub classAnswer : Bool → ℕ → List Charge → Answer
-unfolding ruleAnswer ofClass
-classAnswer tokens slot charges =
-    firstRefusal (map (λ (c : Charge). cond (ofClass tokens (c .act .kind)) (ruleAnswer slot c) (answer accepted)) charges)
 
 -- what is written of a window: what is spent and, where it was over, the slot that the new one began at
 unfoldable pub spentChange : ℕ → ℕ → List ℕ → Change

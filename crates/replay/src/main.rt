@@ -71,7 +71,7 @@ fn judge_call(region: &mut [u8], bytes: &[u8], call: Call) -> Answer {
     let later = call.later;
     let instructions = call.instructions;
     let vault = call.vault;
-    judge::call::judge(
+    judge::judge(
         region,
         frame::part_of(bytes, earlier),
         frame::part_of(bytes, later),

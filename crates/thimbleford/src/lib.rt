@@ -1,6 +1,6 @@
 // The co-signer's boundary: creation and the judged call as C functions, each answering with a number of the table.
 use creation::validate_actions_buffer;
-use judge::call::judge;
+use judge::judge;
 ghost use mathlib.Core.Path.{_≡_};
 ghost use Rattle.creation.specs.Creation.{creation};
 ghost use Rattle.judge.specs.Judge.{callOf, judged, regionAfter};

@@ -1,0 +1,3 @@
+pub mod Accepting
+pub mod Charging
+pub mod Settling

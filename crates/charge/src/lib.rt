@@ -1,0 +1,100 @@
+// Charges, the actions of a row with an amount each: what the rules of a class answer to them, and
+// settling them where they lie.
+use action::ActionView;
+use action::SOL_LIMIT;
+use action::SOL_MAX_PER_TX;
+use action::SOL_RECURRING_LIMIT;
+use action::fields::apply_change;
+use action::fields::is_token;
+use answer::ACCEPTED;
+use answer::Answer;
+use limit::change_of;
+use limit::rule_answer;
+use region::row::action_in;
+use region::row::how_many;
+ghost use mathlib.Core.Path.{_≡_};
+ghost use mathlib.Core.Bool.{cond};
+ghost use Rattle.answer.specs.Numbers.{answer, accepted};
+ghost use Prim.Native.Nat.{min};
+ghost use lib.ListN.{length};
+ghost use Rattle.region.specs.Views.{viewsOf};
+ghost use Rattle.action.specs.Views.{actionAt};
+ghost use Rattle.limit.specs.Limit.{ruleAnswer};
+ghost use Rattle.charge.specs.Classes.{isSol, ofClass, classAnswer};
+ghost use Rattle.charge.specs.Views.{chargesAt, settledAt};
+
+fn is_sol(kind: u8) -> bool
+    ensures { λ r. ⌜ r ≡ isSol kind ⌝ }
+{
+    if kind == SOL_LIMIT {
+        return true;
+    }
+    if kind == SOL_RECURRING_LIMIT {
+        return true;
+    }
+    kind == SOL_MAX_PER_TX
+}
+
+fn of_class(tokens: bool, kind: u8) -> bool
+    ensures { λ r. ⌜ r ≡ ofClass tokens kind ⌝ }
+{
+    if tokens { is_token(kind) } else { is_sol(kind) }
+}
+
+fn class_rule(region: &[u8], view: ActionView, tokens: bool, slot: u64, amount: u64) -> Answer
+    ensures { λ r. ⌜ r ≡ cond (ofClass tokens (view .kind)) (ruleAnswer slot (record { act = actionAt (now (region .entry)) view; amount = amount })) (answer accepted) ⌝ }
+{
+    if of_class(tokens, view.kind) {
+        return rule_answer(region, view, slot, amount);
+    }
+    Answer::of(ACCEPTED)
+}
+
+// How many actions of a row there is an amount for.
+fn charged(actions: &[u64], amounts: &[u64]) -> usize
+    ensures { λ r. ⌜ r ≡ min (length (viewsOf (now (actions .entry)))) (length (now (amounts .entry))) ⌝ }
+{
+    let n = how_many(actions);
+    if n < amounts.len() { n } else { amounts.len() }
+}
+
+// What the rules of one class, the tokens' or SOL's, answer, in region order and as far as there are
+// amounts.
+pub fn class_answer(
+    region: &[u8],
+    actions: &[u64],
+    amounts: &[u64],
+    tokens: bool,
+    slot: u64,
+) -> Answer
+    ensures { λ r. ⌜ r ≡ classAnswer tokens slot (chargesAt (now (region .entry)) (now (actions .entry)) (now (amounts .entry))) ⌝ }
+{
+    let n = charged(actions, amounts);
+    let mut i = 0;
+    while i < n {
+        let view = action_in(actions, i);
+        let amount = amounts[i];
+        let answer = class_rule(region, view, tokens, slot, amount);
+        if !answer.accepts() {
+            return answer;
+        }
+        i += 1;
+    }
+    Answer::of(ACCEPTED)
+}
+
+// Writes what an accepted call changes, action by action as far as there are amounts; no other byte
+// changes.
+pub fn settle(region: &mut [u8], actions: &[u64], amounts: &[u64], slot: u64)
+    ensures { λ _. ⌜ now (region .exit) ≡ settledAt slot (now (actions .entry)) (now (amounts .entry)) (now (region .entry)) ⌝ }
+{
+    let n = charged(actions, amounts);
+    let mut i = 0;
+    while i < n {
+        let view = action_in(actions, i);
+        let amount = amounts[i];
+        let change = change_of(region, view, slot, amount);
+        apply_change(region, view, change);
+        i += 1;
+    }
+}
