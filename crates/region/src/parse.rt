@@ -88,10 +88,11 @@ pub fn parse_actions(region: &[u8]) -> Parsed
         let HeaderRead::View(view) = read else {
             return Parsed::refused(header_answer(read));
         };
-        parsed.list[4 * count] = view.kind as u64;
-        parsed.list[4 * count + 1] = view.expires;
-        parsed.list[4 * count + 2] = view.at as u64;
-        parsed.list[4 * count + 3] = view.len as u64;
+        let first = 4 * count;
+        parsed.list[first] = view.kind as u64;
+        parsed.list[first + 1] = view.expires;
+        parsed.list[first + 2] = view.at as u64;
+        parsed.list[first + 3] = view.len as u64;
         count += 1;
         at = view.at + view.len;
     }

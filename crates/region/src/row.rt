@@ -36,10 +36,11 @@ pub fn action_in(actions: &[u64], i: usize) -> ActionView
             len: 0,
         };
     }
+    let first = 4 * i;
     ActionView {
-        kind: (actions[4 * i] % 256) as u8,
-        expires: actions[4 * i + 1],
-        at: actions[4 * i + 2] as usize,
-        len: actions[4 * i + 3] as usize,
+        kind: (actions[first] % 256) as u8,
+        expires: actions[first + 1],
+        at: actions[first + 2] as usize,
+        len: actions[first + 3] as usize,
     }
 }

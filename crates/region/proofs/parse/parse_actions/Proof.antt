@@ -56,50 +56,41 @@ returns-2 c =
     let stopped = cut-stopped (at-loop .loop .inv .1 .so-far) (omega arith) (omega arith) (told .0 .0) (sym (at-read .read-header .ensures) ∙ told .1) in
     c .refused2 .ensures ∙ rw (c .before .header-answer .ensures, told .1, stopped)
 
+mul-first : tie.Need-mul-first Inv-loop μ-loop
+mul-first c = omega arith
+
 cast-parsed : tie.Need-cast-parsed Inv-loop μ-loop
 cast-parsed c = omega arith
 
 mul-parsed : tie.Need-mul-parsed Inv-loop μ-loop
 mul-parsed c = omega arith
 
-mul-parsed-2 : tie.Need-mul-parsed-2 Inv-loop μ-loop
-mul-parsed-2 c = omega arith
-
 element-write-parsed : tie.Need-element-write-parsed Inv-loop μ-loop
 element-write-parsed c = omega arith
-
-mul-parsed-3 : tie.Need-mul-parsed-3 Inv-loop μ-loop
-mul-parsed-3 c = omega arith
 
 add-parsed : tie.Need-add-parsed Inv-loop μ-loop
 add-parsed c = omega arith
 
-mul-parsed-4 : tie.Need-mul-parsed-4 Inv-loop μ-loop
-mul-parsed-4 c = omega arith
+mul-parsed-2 : tie.Need-mul-parsed-2 Inv-loop μ-loop
+mul-parsed-2 c = omega arith
 
 element-write-parsed-2 : tie.Need-element-write-parsed-2 Inv-loop μ-loop
 element-write-parsed-2 c = omega arith
 
-mul-parsed-5 : tie.Need-mul-parsed-5 Inv-loop μ-loop
-mul-parsed-5 c = omega arith
-
 add-parsed-2 : tie.Need-add-parsed-2 Inv-loop μ-loop
 add-parsed-2 c = omega arith
 
-mul-parsed-6 : tie.Need-mul-parsed-6 Inv-loop μ-loop
-mul-parsed-6 c = omega arith
+mul-parsed-3 : tie.Need-mul-parsed-3 Inv-loop μ-loop
+mul-parsed-3 c = omega arith
 
 element-write-parsed-3 : tie.Need-element-write-parsed-3 Inv-loop μ-loop
 element-write-parsed-3 c = omega arith
 
-mul-parsed-7 : tie.Need-mul-parsed-7 Inv-loop μ-loop
-mul-parsed-7 c = omega arith
-
 add-parsed-3 : tie.Need-add-parsed-3 Inv-loop μ-loop
 add-parsed-3 c = omega arith
 
-mul-parsed-8 : tie.Need-mul-parsed-8 Inv-loop μ-loop
-mul-parsed-8 c = omega arith
+mul-parsed-4 : tie.Need-mul-parsed-4 Inv-loop μ-loop
+mul-parsed-4 c = omega arith
 
 element-write-parsed-4 : tie.Need-element-write-parsed-4 Inv-loop μ-loop
 element-write-parsed-4 c = omega arith
@@ -150,21 +141,18 @@ parse-actions-spec =
     header-answer-requires
     refused-requires-2
     returns-2
+    mul-first
     cast-parsed
     mul-parsed
-    mul-parsed-2
     element-write-parsed
-    mul-parsed-3
     add-parsed
-    mul-parsed-4
+    mul-parsed-2
     element-write-parsed-2
-    mul-parsed-5
     add-parsed-2
-    mul-parsed-6
+    mul-parsed-3
     element-write-parsed-3
-    mul-parsed-7
     add-parsed-3
-    mul-parsed-8
+    mul-parsed-4
     element-write-parsed-4
     add-count
     add-at

@@ -10,53 +10,44 @@ use Rattle.region.proofs.row.action_in.Tie as tie
 returns : tie.Need-returns
 returns c = sym (no-view-at _ _ _ (omega arith))
 
-mul-t3 : tie.Need-mul-t3
-mul-t3 c = search needs
+mul-first : tie.Need-mul-first
+mul-first c = search needs
 
 mul-t4 : tie.Need-mul-t4
 mul-t4 c = search needs
 
-shared-slice-read-t7 : tie.Need-shared-slice-read-t7
-shared-slice-read-t7 c = search needs
+shared-slice-read-t8 : tie.Need-shared-slice-read-t8
+shared-slice-read-t8 c = search needs
 
-cast-t9 : tie.Need-cast-t9
-cast-t9 c = search needs
+cast-t10 : tie.Need-cast-t10
+cast-t10 c = search needs
 
-mul-t10 : tie.Need-mul-t10
-mul-t10 c = search needs
+add-t5 : tie.Need-add-t5
+add-t5 c = search needs
 
-add-t11 : tie.Need-add-t11
-add-t11 c = search needs
+mul-t11 : tie.Need-mul-t11
+mul-t11 c = search needs
 
-mul-t12 : tie.Need-mul-t12
-mul-t12 c = search needs
+shared-slice-read-t13 : tie.Need-shared-slice-read-t13
+shared-slice-read-t13 c = search needs
 
-shared-slice-read-t14 : tie.Need-shared-slice-read-t14
-shared-slice-read-t14 c = search needs
+add-t14 : tie.Need-add-t14
+add-t14 c = search needs
 
 mul-t15 : tie.Need-mul-t15
 mul-t15 c = search needs
 
-add-t16 : tie.Need-add-t16
-add-t16 c = search needs
+shared-slice-read-t17 : tie.Need-shared-slice-read-t17
+shared-slice-read-t17 c = search needs
 
-mul-t17 : tie.Need-mul-t17
-mul-t17 c = search needs
+add-t19 : tie.Need-add-t19
+add-t19 c = search needs
 
-shared-slice-read-t19 : tie.Need-shared-slice-read-t19
-shared-slice-read-t19 c = search needs
+mul-t20 : tie.Need-mul-t20
+mul-t20 c = search needs
 
-mul-t21 : tie.Need-mul-t21
-mul-t21 c = search needs
-
-add-t22 : tie.Need-add-t22
-add-t22 c = search needs
-
-mul-t23 : tie.Need-mul-t23
-mul-t23 c = search needs
-
-shared-slice-read-t25 : tie.Need-shared-slice-read-t25
-shared-slice-read-t25 c = search needs
+shared-slice-read-t22 : tie.Need-shared-slice-read-t22
+shared-slice-read-t22 c = search needs
 
 returns-2 : tie.Need-returns-2
 returns-2 c = sym (view-at _ _ _ (omega arith))
@@ -66,20 +57,17 @@ action-in-spec =
     tie.close
     (tie.spec
     returns
-    mul-t3
+    mul-first
     mul-t4
-    shared-slice-read-t7
-    cast-t9
-    mul-t10
-    add-t11
-    mul-t12
-    shared-slice-read-t14
+    shared-slice-read-t8
+    cast-t10
+    add-t5
+    mul-t11
+    shared-slice-read-t13
+    add-t14
     mul-t15
-    add-t16
-    mul-t17
-    shared-slice-read-t19
-    mul-t21
-    add-t22
-    mul-t23
-    shared-slice-read-t25
+    shared-slice-read-t17
+    add-t19
+    mul-t20
+    shared-slice-read-t22
     returns-2)
