@@ -8,9 +8,9 @@ use borrow.Author.Tests.{le-leb, lt-leb}
 use lib.Dec.{lit<}
 use lib.ListN.{length, take, drop, length-drop, take-append-drop, drop-of-length-le, length-take}
 use lib.Seq.{drop-drop, drop-at, take-add, take-take, take-all, length-take-le}
-use Rattle.action.specs.declared.ActionView.{ActionView}
 use Rattle.number.specs.Number.{withNumberAt}
 use Rattle.number.proofs.Laws.{not-written}
+use Rattle.action.specs.declared.ActionView.{ActionView}
 use Rattle.action.specs.declared.Change.{Change}
 use Rattle.action.specs.declared.Change.the-variants.{Nothing, Remaining, Spent}
 use Rattle.action.specs.Action.{Action}

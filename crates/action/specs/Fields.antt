@@ -5,8 +5,8 @@ use mathlib.Core.Bool.{Bool, cond, _||_}
 use mathlib.Core.List.{List, _++_}
 use lib.Dec.{eqb}
 use lib.ListN.{take, drop}
-use Rattle.key.specs.Key.{keyLength}
 use Rattle.number.specs.Number.{numberAt, withNumberAt}
+use Rattle.key.specs.Key.{keyLength}
 use Rattle.action.specs.declared.Change.{Change}
 use Rattle.action.specs.declared.Change.the-variants.{Nothing, Remaining, Spent}
 use Rattle.action.specs.Action.{Action, tokenLimit, tokenRecurringLimit, tokenMaxPerTx, solRecurringLimit}

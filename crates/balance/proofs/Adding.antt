@@ -6,14 +6,14 @@ use mathlib.Core.List.{List, [], _∷_, _++_}
 use Prim.Native.Nat.{ℕ, suc, _+_, _-_, _/_, _^_, _<_, _≤_}
 use native.Mathlib.Omega.{arith}
 use lib.ListN.{length, getD, drop, drop-of-length-le}
-use Rattle.key.specs.Key.{sameKey}
 use Rattle.number.specs.Number.{cappedSum, highest}
+use Rattle.key.specs.Key.{sameKey}
 use Rattle.account.specs.declared.RecordView.{RecordView}
 use Rattle.account.specs.Record.{Record}
-use Rattle.token.specs.Tokens.{mintOf, amountOf, isCounted}
-use Rattle.balance.specs.Balance.{share, holdings, balance}
 use Rattle.account.specs.Views.{recordAt, viewsOf, recordsIn}
 use Rattle.account.proofs.Views.{records-step}
+use Rattle.token.specs.Tokens.{mintOf, amountOf, isCounted}
+use Rattle.balance.specs.Balance.{share, holdings, balance}
 
 -- a total and what the record adds to it
 module _ (r : Record) (vault mint : List ℕ) (total : ℕ) where

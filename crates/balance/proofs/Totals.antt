@@ -7,8 +7,8 @@ use Prim.Native.Nat.{ℕ, suc, _+_, _-_, _/_, _<_, _≤_}
 use native.Mathlib.Omega.{arith}
 use lib.ListN.{length, getD, take, drop, set, replicate, length-take, length-map, drop-of-length-le, List·getD-map, replicate-append-replicate}
 use lib.Seq.{take-all, take-suc, drop-cons, set-at, getD-at, append-snoc}
-use Rattle.key.specs.Key.{sameKey}
 use Rattle.number.specs.Number.{cappedSum}
+use Rattle.key.specs.Key.{sameKey}
 use Rattle.account.specs.declared.RecordView.{RecordView}
 use Rattle.account.specs.Views.{recordAt, viewsOf, recordsIn}
 use Rattle.account.proofs.Views.{length-records}

@@ -6,20 +6,20 @@ use mathlib.Core.List.{_++_}
 use lib.ListN.{replicate}
 use Rattle.answer.specs.NamedValue.{AsNamed}
 use Rattle.answer.specs.Numbers.{firstRefusal}
-use Rattle.key.specs.Key.{sameKey, sameBytes}
 use Rattle.number.specs.Number.{number, bytesOf, numberAt, cappedSum, flooredDifference, withNumberAt, highest}
+use Rattle.key.specs.Key.{sameKey, sameBytes}
 use Rattle.action.specs.Action.{dataLength, sizeAmong, expired}
 use Rattle.action.specs.Fields.{isToken, isRecurring, keyOf, amountsOf, changed, withAmounts}
 use Rattle.region.specs.Region.{glue, glueOne, cut, first, statedLength}
-use Rattle.mints.specs.Mints.{isListed}
 use Rattle.creation.specs.Creation.{formOf, allKeep, keeps, bothLists, solRepeats, howOften, mintRepeats, mintAgain, inStoredForm, storedActions, creation}
+use Rattle.mints.specs.Mints.{isListed}
 use Rattle.compact.specs.Compact.{mostInstructions, byte, front, decodeOne, decodeEach, decode}
 use Rattle.table.specs.Table.{cutTable, cutRecords, firstRecord}
 use Rattle.balance.specs.Balance.{balance}
 use Rattle.limit.specs.Limit.{refusalOf, windowOver, base, above, breaks, ruleAnswer, spentChange, isLimit, liveChange, changeOf, settled}
 use Rattle.charge.specs.Classes.{isSol, ofClass, classAnswer}
-use Rattle.freeze.specs.Freeze.{allFrozen}
 use Rattle.programs.specs.Programs.{programsAnswer}
+use Rattle.freeze.specs.Freeze.{allFrozen}
 use Rattle.judge.specs.Judge.{recordsBefore, recordsAfter, amountFor, charged, soundness, rules, steps, judged, regionAfter}
 use Rattle.judge.specs.NamedValues.{called, spending}
 use Rattle.bursar.specs.Run.{sol, tokens, afterRun, numbersOf, takenBy, takenWhere}

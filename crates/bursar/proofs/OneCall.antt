@@ -14,12 +14,12 @@ use Rattle.number.specs.Number.{Bytes, highest}
 use Rattle.key.specs.Key.{sameKey}
 use Rattle.key.proofs.Laws.{same-key-eq}
 use Rattle.action.specs.declared.Change.{Change}
-use Rattle.creation.specs.declared.Rule.{Rule}
-use Rattle.creation.specs.declared.Rule.the-variants.{Windowed}
 use Rattle.action.specs.Action.{Action, solMaxPerTx}
 use Rattle.action.specs.Fields.{isToken, isRecurring, keyOf, amountsOf, remaining, limit, spent, window, changed}
-use Rattle.creation.specs.Creation.{keeps, allKeep, storedActions}
 use Rattle.action.proofs.Changing.{Regular, AllRegular, changed-kind, changed-key, mint-there, window-kept}
+use Rattle.creation.specs.declared.Rule.{Rule}
+use Rattle.creation.specs.declared.Rule.the-variants.{Windowed}
+use Rattle.creation.specs.Creation.{keeps, allKeep, storedActions}
 use Rattle.creation.proofs.Keeping.{window-kept as windowed-is}
 use Rattle.creation.proofs.Theorems.{stored-is-formed, stored-is-regular}
 use Rattle.limit.specs.Limit.{Charge, breaks, isLimit, settled}

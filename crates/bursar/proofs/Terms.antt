@@ -13,11 +13,11 @@ use Rattle.key.specs.Key.{sameKey}
 use Rattle.key.proofs.Laws.{same-key-eq}
 use Rattle.action.specs.declared.Change.{Change}
 use Rattle.action.specs.declared.Change.the-variants.{Nothing}
-use Rattle.creation.specs.declared.Rule.the-variants.{Windowed}
 use Rattle.action.specs.Action.{Action, expired}
 use Rattle.action.specs.Fields.{isToken, isRecurring, keyOf, mintLength, amountsOf, limit, window, changedAmounts}
-use Rattle.creation.specs.Creation.{kindsOf, howOften, mintAgain, mintRepeats}
 use Rattle.action.proofs.Changing.{mint-there, changed-kind, changed-expires, changed-length, changed-mint, changed-amounts, window-kept}
+use Rattle.creation.specs.declared.Rule.the-variants.{Windowed}
+use Rattle.creation.specs.Creation.{kindsOf, howOften, mintAgain, mintRepeats}
 use Rattle.creation.proofs.Theorems.{Formed}
 use Rattle.limit.specs.Limit.{isLimit, liveChange, changeOf}
 use Rattle.limit.proofs.Rules.{change-none}

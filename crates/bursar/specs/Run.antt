@@ -7,8 +7,8 @@ use mathlib.Core.List.{List, [], _∷_}
 use Rattle.answer.specs.Numbers.{accepts}
 use Rattle.number.specs.Number.{Bytes, highest}
 use Rattle.creation.specs.Creation.{creation}
-use Rattle.judge.specs.Judge.{Call, recordsBefore, recordsAfter, judged, regionAfter}
 use Rattle.outflow.specs.Outflow.{decrease, decreaseOf}
+use Rattle.judge.specs.Judge.{Call, recordsBefore, recordsAfter, judged, regionAfter}
 
 -- a region, as bytes, that creation accepted
 abbrev pub Created : List ℕ → Type 0

@@ -16,8 +16,8 @@ use Rattle.action.specs.declared.ActionView.{ActionView}
 use Rattle.action.specs.declared.Change.{Change}
 use Rattle.action.specs.Action.{Action}
 use Rattle.action.specs.Fields.{changed}
-use Rattle.region.specs.Views.{viewsOf, actionsIn}
 use Rattle.action.specs.Views.{zeroView, actionAt, writtenAt}
+use Rattle.region.specs.Views.{viewsOf, actionsIn}
 use Rattle.region.proofs.Views.{actions-step, length-actions}
 use Rattle.limit.specs.Limit.{Charge, ruleAnswer, changeOf, settled}
 use Rattle.charge.specs.Classes.{ofClass, classAnswer}

@@ -3,8 +3,8 @@
 use mathlib.Core.Path.{refl}
 use Rattle.answer.specs.NamedValue.{AsNamed}
 use Rattle.answer.specs.Numbers.{firstRefusal}
-use Rattle.key.specs.Key.{sameKey, sameBytes}
 use Rattle.number.specs.Number.{number, bytesOf, numberAt}
+use Rattle.key.specs.Key.{sameKey, sameBytes}
 use Rattle.action.specs.Action.{dataLength, sizeAmong}
 use Rattle.action.specs.Fields.{isToken, isRecurring, keyOf, amountsOf}
 use Rattle.region.specs.Region.{glue, cut, first, statedLength}

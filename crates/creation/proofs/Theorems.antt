@@ -11,16 +11,15 @@ use lib.ListN.{length}
 use Rattle.answer.specs.declared.Answer.{Answer}
 use Rattle.answer.specs.Numbers.{answer, accepted, accepts, badRegion, actionBufferInvalid, actionWhitelistBlacklistConflict}
 use Rattle.answer.specs.Refusable.{Refusable, given, refused}
-use Rattle.key.specs.Key.{sameKey}
 use Rattle.number.specs.Number.{Bytes}
+use Rattle.key.specs.Key.{sameKey}
 use Rattle.action.specs.declared.Change.{Change}
 use Rattle.action.specs.Action.{Action}
 use Rattle.action.specs.Fields.{isToken, isRecurring, keyOf, amountsOf, spent, window, lastReset, changed}
 use Rattle.action.proofs.Changing.{Regular, AllRegular, changed-kind, changed-length, changed-key, changed-regular, mint-there, window-kept}
 use Rattle.region.specs.Region.{cut, glue, mostActions}
-use Rattle.region.proofs.Gluing.{regular-fit}
+use Rattle.region.proofs.Gluing.{regular-fit, glue-cut, cut-glue}
 use Rattle.region.proofs.Cuts.{cut-cuts, cut-refuses, cut-at-most}
-use Rattle.region.proofs.Gluing.{glue-cut, cut-glue}
 use Rattle.creation.specs.declared.Rule.{Rule}
 use Rattle.creation.specs.declared.Rule.the-variants.{Length, Fresh, Windowed}
 use Rattle.creation.specs.Creation.{keeps, allKeep, kindsOf, bothLists, solRepeats, mintAgain, mintRepeats, formOf, creation, inStoredForm, storedActions}

@@ -9,15 +9,15 @@ use native.Mathlib.Omega.{arith}
 use lib.ListN.{length, getD, take, drop, length-drop, drop-of-length-le}
 use lib.Seq.{take-all, take-nil}
 use Rattle.key.specs.declared.Key.{Key}
-use Rattle.keys.specs.declared.Keys.{Keys}
 use Rattle.key.specs.Key.{sameKey, sameBytes}
+use Rattle.keys.specs.declared.Keys.{Keys}
 use Rattle.keys.specs.Keys.{isAmong, keysIn}
 use Rattle.keys.proofs.Laws.{keys-step, keys-end}
 use Rattle.account.specs.declared.RecordView.{RecordView}
 use Rattle.account.specs.Record.{Record}
-use Rattle.token.specs.Tokens.{isTokenAccount, isCounted, mintOf}
 use Rattle.account.specs.Views.{recordAt, viewsOf, recordsIn, zeroView}
 use Rattle.account.proofs.Views.{records-step, length-records}
+use Rattle.token.specs.Tokens.{isTokenAccount, isCounted, mintOf}
 use Rattle.freeze.specs.Freeze.{firstWithKey, samePart, sameAuthorities, isStill, isFoundStill, keepsFreeze, allFrozen}
 
 -- ---- parts

@@ -4,15 +4,15 @@ use mathlib.Core.Path.{refl}
 use mathlib.Core.List.{List, [], _∷_, _++_}
 use Rattle.answer.specs.NamedValue.{NamedValue, AsNamed}
 use Rattle.answer.specs.Numbers.{firstRefusal}
-use Rattle.key.specs.Key.{sameKey, sameBytes}
 use Rattle.number.specs.Number.{number, bytesOf, numberAt, cappedSum, flooredDifference, withNumberAt, highest}
+use Rattle.key.specs.Key.{sameKey, sameBytes}
 use Rattle.action.specs.Action.{dataLength, sizeAmong, expired}
 use Rattle.action.specs.Fields.{isToken, isRecurring, keyOf, amountsOf, changed}
 use Rattle.region.specs.Region.{glue, glueOne, cut, first, statedLength}
-use Rattle.mints.specs.Mints.{isListed}
 use Rattle.creation.specs.Creation.{formOf, allKeep, keeps, bothLists, solRepeats, howOften, mintRepeats, mintAgain, inStoredForm, storedActions}
 use Rattle.creation.specs.NamedValues.{namedValues as creationValues}
 use Rattle.creation.proofs.NamedValues.{as-named as creation-as-named}
+use Rattle.mints.specs.Mints.{isListed}
 use Rattle.compact.specs.Compact.{mostInstructions, byte, front, decodeOne, decodeEach, decode}
 use Rattle.compact.specs.NamedValues.{namedValues as compactValues}
 use Rattle.compact.proofs.NamedValues.{as-named as compact-as-named}
@@ -20,8 +20,8 @@ use Rattle.table.specs.Table.{cutTable, cutRecords, firstRecord}
 use Rattle.balance.specs.Balance.{balance}
 use Rattle.limit.specs.Limit.{refusalOf, windowOver, base, above, breaks, ruleAnswer, spentChange, isLimit, liveChange, changeOf, settled}
 use Rattle.charge.specs.Classes.{isSol, ofClass, classAnswer}
-use Rattle.freeze.specs.Freeze.{allFrozen}
 use Rattle.programs.specs.Programs.{programsAnswer}
+use Rattle.freeze.specs.Freeze.{allFrozen}
 use Rattle.judge.specs.Judge.{recordsBefore, recordsAfter, amountFor, charged, soundness, rules, steps, judged, regionAfter}
 use Rattle.judge.specs.NamedValues.{one, left, recurring, called, spending, outcome, callValues, namedValues}
 

@@ -20,14 +20,14 @@ use Rattle.keys.specs.Keys.{isAmong, keysIn}
 use Rattle.action.specs.Action.{Action}
 use Rattle.region.specs.declared.Parsed.{Parsed}
 use Rattle.region.specs.Region.{cut, glue, mostActions}
-use Rattle.mints.specs.Mints.{isListed, listedMints}
-use Rattle.creation.specs.Creation.{inStoredForm, storedActions}
-use Rattle.creation.specs.Views.{storedAnswer}
 use Rattle.region.specs.Views.{placed as placedAt, viewsOf, actionsIn, parsedOf}
 use Rattle.region.proofs.Cuts.{cut-cuts, cut-at-most, rowIn, views-of-parsed, actions-of-parsed}
+use Rattle.creation.specs.Creation.{inStoredForm, storedActions}
+use Rattle.creation.specs.Views.{storedAnswer}
 use Rattle.creation.proofs.Forms.{stored-by-answer}
-use Rattle.mints.proofs.Held.{listed-mints-hold}
 use Rattle.creation.proofs.Theorems.{stored-is-formed, stored-is-glued}
+use Rattle.mints.specs.Mints.{isListed, listedMints}
+use Rattle.mints.proofs.Held.{listed-mints-hold}
 use Rattle.compact.specs.declared.Entry.{Entry}
 use Rattle.compact.specs.declared.Parsed.{Parsed as ReadList}
 use Rattle.compact.specs.declared.Programs.{Programs}
@@ -35,10 +35,10 @@ use Rattle.compact.specs.Compact.{Instruction, Read, decode, reading, placed, p
 use Rattle.compact.proofs.Indexes.{programs-counted, programs-answer}
 use Rattle.compact.proofs.Places.{entries-held}
 use Rattle.compact.proofs.Reading.{reading-of, outcome}
-use Rattle.table.specs.declared.Places.{Places}
 use Rattle.account.specs.Record.{Record}
-use Rattle.table.specs.Table.{cutTable, recordsOf}
 use Rattle.account.specs.Views.{recordsIn}
+use Rattle.table.specs.declared.Places.{Places}
+use Rattle.table.specs.Table.{cutTable, recordsOf}
 use Rattle.table.specs.Views.{placesOf}
 use Rattle.table.proofs.Views.{records-of-places}
 use Rattle.balance.specs.Views.{sumsOf}
@@ -47,12 +47,12 @@ use Rattle.charge.specs.Classes.{classAnswer}
 use Rattle.charge.specs.Views.{charges, chargesAt, settledAt}
 use Rattle.charge.proofs.Charging.{charges-map, settle-end, settle-all}
 use Rattle.charge.proofs.Settling.{settle-glued}
-use Rattle.freeze.specs.Freeze.{allFrozen}
 use Rattle.programs.specs.Programs.{programsAnswer}
+use Rattle.freeze.specs.Freeze.{allFrozen}
+use Rattle.freeze.proofs.Freezing.{frozen-alike}
 use Rattle.outflow.specs.Outflow.{decrease, amountFrom}
 use Rattle.judge.specs.Judge.{Call, answerOf, recordsBefore, recordsAfter, programsOf, readAnswer, actionsOf, amountFor, charged, soundness, rules, steps, judged, regionAfter}
 use Rattle.judge.specs.Views.{frozenFrom, checksFrom, limitsFrom, rulesFrom}
-use Rattle.freeze.proofs.Freezing.{frozen-alike}
 
 -- ---- steps 5 to 8, from what was cut
 

@@ -18,20 +18,20 @@ use Rattle.action.specs.declared.Change.{Change}
 use Rattle.action.specs.Action.{Action, solLimit, solRecurringLimit, solMaxPerTx, tokenLimit, tokenRecurringLimit, tokenMaxPerTx}
 use Rattle.action.specs.Fields.{changed}
 use Rattle.region.specs.Region.{glue}
-use Rattle.mints.specs.Mints.{isListed}
-use Rattle.creation.specs.Creation.{howOften, kindsOf, storedActions}
 use Rattle.region.proofs.Gluing.{bytes-glued}
+use Rattle.creation.specs.Creation.{howOften, kindsOf, storedActions}
 use Rattle.creation.proofs.Theorems.{stored-is-formed, stored-is-regular, glued-is-stored, formed-changed, regular-changed}
+use Rattle.mints.specs.Mints.{isListed}
 use Rattle.compact.specs.Compact.{Instruction, Read, decode}
 use Rattle.account.specs.Record.{Record}
 use Rattle.table.specs.Table.{cutTable}
-use Rattle.lookup.specs.Indexes.{keyAmong}
 use Rattle.table.proofs.Theorems.{every-refusal-of-a-table-is-13}
+use Rattle.lookup.specs.Indexes.{keyAmong}
 use Rattle.limit.specs.Limit.{Charge, refusalOf, breaks, ruleAnswer, changeOf, settled}
 use Rattle.charge.specs.Classes.{ofClass, classAnswer}
 use Rattle.charge.proofs.Accepting.{EachKept, each-kept}
-use Rattle.freeze.specs.Freeze.{allFrozen}
 use Rattle.programs.specs.Programs.{inLiveList, listsAnswer, programAnswer, programsAnswer}
+use Rattle.freeze.specs.Freeze.{allFrozen}
 use Rattle.judge.specs.Judge.{Call, answerOf, recordsBefore, recordsAfter, programsOf, readAnswer, actionsOf, amountFor, charged, soundness, rules, steps, judged, regionAfter}
 use Rattle.judge.proofs.Steps.{refused-keeps, stored-refusal}
 

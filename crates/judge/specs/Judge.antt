@@ -12,8 +12,8 @@ use Rattle.answer.specs.Refusable.{Refusable, given, refused}
 use Rattle.key.specs.Key.{keyLength}
 use Rattle.action.specs.Action.{Action}
 use Rattle.region.specs.Region.{glue}
-use Rattle.mints.specs.Mints.{isListed}
 use Rattle.creation.specs.Creation.{storedActions}
+use Rattle.mints.specs.Mints.{isListed}
 use Rattle.compact.specs.Compact.{Instruction, Read, decode}
 use Rattle.account.specs.Record.{Record}
 use Rattle.table.specs.Table.{cutTable, recordsOf}

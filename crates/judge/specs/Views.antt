@@ -12,8 +12,8 @@ use Rattle.mints.specs.Mints.{listedMints}
 use Rattle.account.specs.Record.{Record}
 use Rattle.limit.specs.Limit.{Charge}
 use Rattle.charge.specs.Classes.{classAnswer}
-use Rattle.freeze.specs.Freeze.{allFrozen}
 use Rattle.programs.specs.Programs.{programsAnswer}
+use Rattle.freeze.specs.Freeze.{allFrozen}
 
 -- whether the authorities of the accounts of some mints stay as they were
 unfoldable pub frozenFrom : List ℕ → List Record → List Record → Keys → Bool

@@ -25,13 +25,13 @@ ghost use mathlib.Core.Bool.{true, cond};
 ghost use mathlib.Core.List.{map};
 ghost use lib.ListN.{length};
 ghost use Rattle.answer.specs.Numbers.{accepts};
-ghost use Rattle.table.specs.Table.{cutTable, recordsOf};
-ghost use Rattle.account.specs.Views.{recordsIn};
-ghost use Rattle.balance.specs.Views.{sumsOf};
 ghost use Rattle.region.specs.Views.{actionsIn};
+ghost use Rattle.account.specs.Views.{recordsIn};
+ghost use Rattle.table.specs.Table.{cutTable, recordsOf};
+ghost use Rattle.balance.specs.Views.{sumsOf};
 ghost use Rattle.charge.specs.Views.{chargesAt, settledAt};
-ghost use Rattle.judge.specs.Judge.{callOf, answerOf, judged, regionAfter};
 ghost use Rattle.outflow.specs.Outflow.{amountFrom};
+ghost use Rattle.judge.specs.Judge.{callOf, answerOf, judged, regionAfter};
 ghost use Rattle.judge.specs.Views.{checksFrom, limitsFrom, rulesFrom};
 
 // Steps 5 and 6: the programs and the freeze.

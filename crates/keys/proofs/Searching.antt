@@ -10,8 +10,8 @@ use borrow.Author.Tests.{lt-ltb, ltb-true, ltb-false}
 use lib.Dec.{ltb}
 use lib.ListN.{length, getD, drop}
 use Rattle.key.specs.Key.{sameKey}
-use Rattle.keys.specs.Keys.{isAmong, keysIn}
 use Rattle.key.specs.declared.Key.{Key}
+use Rattle.keys.specs.Keys.{isAmong, keysIn}
 use Rattle.keys.specs.declared.Keys.{Keys}
 use Rattle.keys.proofs.Laws.{among-found, among-passed, among-end}
 

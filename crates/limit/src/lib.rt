@@ -16,8 +16,6 @@ use answer::ACCEPTED;
 use answer::Answer;
 use number::capped_sum;
 use number::floored_difference;
-use region::row::action_in;
-use region::row::how_many;
 ghost use mathlib.Core.Path.{_≡_};
 ghost use Prim.Native.Nat.{_*_, _/_};
 ghost use Rattle.action.specs.Views.{actionAt};

@@ -14,12 +14,12 @@ use Rattle.compact.specs.declared.Range.{Range}
 use Rattle.compact.specs.declared.Entry.{Entry}
 use Rattle.compact.specs.Compact.{within, part}
 use Rattle.account.specs.declared.RecordView.{RecordView}
-use Rattle.table.specs.declared.Places.{Places}
 use Rattle.account.specs.Record.{Record}
-use Rattle.table.specs.Table.{cutTable}
 use Rattle.account.specs.Views.{recordAt, viewsOf, recordsIn}
-use Rattle.table.specs.Views.{placesOf}
 use Rattle.account.proofs.Views.{records-step}
+use Rattle.table.specs.declared.Places.{Places}
+use Rattle.table.specs.Table.{cutTable}
+use Rattle.table.specs.Views.{placesOf}
 use Rattle.table.proofs.Views.{records-of-places, table-malformed, table-sound}
 use Rattle.lookup.specs.Indexes.{allBelow, resolvable, resolving, keyAmong, keyAt}
 

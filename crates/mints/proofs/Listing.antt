@@ -8,17 +8,17 @@ use native.Mathlib.Omega.{arith}
 use borrow.Author.Tests.{not-true, eqb-true, ltb-true}
 use lib.Dec.{eqb, ltb}
 use lib.ListN.{length, getD, drop, set, length-set, drop-of-length-le}
+use Rattle.key.specs.Key.{keyFrom}
 use Rattle.keys.specs.declared.Keys.{Keys}
 use Rattle.keys.specs.Keys.{isAmong, keysIn, keysOf, withKey}
-use Rattle.key.specs.Key.{keyFrom}
 use Rattle.keys.proofs.Filling.{with-new}
 use Rattle.action.specs.declared.ActionView.{ActionView}
 use Rattle.action.specs.Action.{Action}
 use Rattle.action.specs.Fields.{isToken, keyOf}
-use Rattle.mints.specs.Mints.{withMint, withMints, listedMints}
 use Rattle.action.specs.Views.{zeroView, actionAt}
 use Rattle.region.specs.Views.{viewsOf, actionsIn}
 use Rattle.region.proofs.Views.{actions-step, length-actions}
+use Rattle.mints.specs.Mints.{withMint, withMints, listedMints}
 
 pub mint-kept : (mints : Keys) (a : Action) → isToken (a .kind) ≡ false → withMint mints a ≡ mints
 unfolding withMint

@@ -15,8 +15,8 @@ ghost use lib.ListN.{length};
 ghost use Rattle.key.specs.Key.{sameKey, keyLength};
 ghost use Rattle.keys.specs.Keys.{mostKeys};
 ghost use Rattle.action.specs.Fields.{isToken};
-ghost use Rattle.mints.specs.Mints.{listedMints};
 ghost use Rattle.region.specs.Views.{actionsIn};
+ghost use Rattle.mints.specs.Mints.{listedMints};
 
 // Whether an action's mint is put into a list of `count` keys, where a search for it ended at `k`.
 fn is_new(view: ActionView, mint: &[u8], k: Key, count: usize) -> bool

@@ -11,22 +11,22 @@ use borrow.Author.Tests.{eq-eqb, ne-eqb, ltb-true}
 use lib.Dec.{ltb}
 use lib.ListN.{length, getD, take, set, replicate, length-take, length-map, List·getD-map, List·getD-append}
 use lib.Seq.{take-all, take-suc, getD-take, set-at, append-snoc}
+use Rattle.number.specs.Number.{flooredDifference}
 use Rattle.key.specs.declared.Key.{Key}
-use Rattle.keys.specs.declared.Keys.{Keys}
 use Rattle.key.specs.Key.{sameKey}
-use Rattle.keys.specs.Keys.{keysIn}
 use Rattle.key.proofs.Laws.{same-key-eq}
+use Rattle.keys.specs.declared.Keys.{Keys}
+use Rattle.keys.specs.Keys.{keysIn}
 use Rattle.keys.proofs.Laws.{length-keys, key-at}
 use Rattle.keys.proofs.Searching.{Searched}
-use Rattle.number.specs.Number.{flooredDifference}
 use Rattle.action.specs.declared.ActionView.{ActionView}
 use Rattle.action.specs.Fields.{isToken, keyOf}
 use Rattle.action.specs.Views.{zeroView, actionAt}
+use Rattle.region.specs.Views.{viewsOf, actionsIn}
 use Rattle.account.specs.Record.{Record}
 use Rattle.balance.specs.declared.Sums.{Sums}
 use Rattle.balance.specs.Balance.{balance}
 use Rattle.balance.specs.Views.{sumsOf}
-use Rattle.region.specs.Views.{viewsOf, actionsIn}
 use Rattle.outflow.specs.Outflow.{decrease, decreaseOf, solAmount, amountFrom}
 
 -- ---- one action

@@ -17,12 +17,12 @@ ghost use mathlib.Core.List.{map};
 ghost use Prim.Native.Nat.{min};
 ghost use lib.ListN.{length};
 ghost use Rattle.keys.specs.Keys.{keysIn};
-ghost use Rattle.account.specs.Views.{recordsIn};
-ghost use Rattle.balance.specs.Views.{sumsOf};
 ghost use Rattle.action.specs.Fields.{keyOf};
 ghost use Rattle.action.specs.Views.{actionAt};
 ghost use Rattle.region.specs.Region.{mostActions};
 ghost use Rattle.region.specs.Views.{viewsOf, actionsIn};
+ghost use Rattle.account.specs.Views.{recordsIn};
+ghost use Rattle.balance.specs.Views.{sumsOf};
 ghost use Rattle.outflow.specs.Outflow.{decreaseOf, solAmount, amountFrom};
 
 // How much the vault's balance of a mint went down.

@@ -19,10 +19,10 @@ ghost use mathlib.Core.Bool.{not, _&&_};
 ghost use lib.Dec.{eqb, ltb};
 ghost use Rattle.key.specs.Key.{sameKey};
 ghost use Rattle.action.specs.Action.{expired, programWhitelist};
-ghost use Rattle.creation.specs.Creation.{howOften};
 ghost use Rattle.action.specs.Fields.{keyOf};
 ghost use Rattle.action.specs.Views.{actionAt};
 ghost use Rattle.region.specs.Views.{actionsIn, kindsIn};
+ghost use Rattle.creation.specs.Creation.{howOften};
 ghost use Rattle.account.specs.Views.{recordsIn};
 ghost use Rattle.programs.specs.Programs.{inLiveList, listsAnswer, programAnswer, programsAnswer};
 

@@ -1,14 +1,15 @@
 -- How far a region is cut: the actions done, where their views lie, and that cutting the rest gives what cutting the whole gives.
 -- Assumes nothing.
 use mathlib.Core.Path.{_≡_, refl, sym, ap, subst, _∙_}
-use mathlib.Core.List.{List, [], _∷_, _++_, append-assoc, append-nil}
+use mathlib.Core.List.{List, [], _∷_, _++_, append-nil}
 use Prim.Native.Nat.{ℕ, suc, _+_, _-_, _*_, _<_, _≤_}
 use native.Mathlib.Omega.{arith}
 use lib.ListN.{length, drop, set, replicate, length-append, length-drop}
 use lib.Seq.{drop-drop, set-at, append-snoc}
 use Rattle.answer.specs.declared.Answer.{Answer}
 use Rattle.answer.specs.Numbers.{answer, accepted, actionBufferInvalid}
-use Rattle.answer.specs.Refusable.{Refusable, given, refused, change}
+use Rattle.answer.specs.Refusable.{given, refused, change}
+use Rattle.answer.proofs.Refusing.{none-in-front, more-in-front}
 use Rattle.action.specs.declared.ActionView.{ActionView}
 use Rattle.action.specs.Action.{Action}
 use Rattle.action.specs.Views.{zeroView}
@@ -38,15 +39,6 @@ unfolding endOf
 end-append place [] a = refl
 end-append place (b ∷ l) a = end-append (place + 11 + length (b .payload)) l a
 
-change-none : (x : Refusable (List Action)) → change (λ (l : List Action). [] ++ l) x ≡ x
-change-none (given l) = refl
-change-none (refused r) = refl
-
-change-more : (done : List Action) (a : Action) (x : Refusable (List Action))
-    → change (λ (l : List Action). done ++ l) (change (λ (l : List Action). a ∷ l) x) ≡ change (λ (l : List Action). (done ++ (a ∷ [])) ++ l) x
-change-more done a (given l) = ap given (sym (append-assoc done (a ∷ []) l))
-change-more done a (refused r) = refl
-
 pub record CutSoFar (s : List ℕ) (views : List ActionView) (count at : ℕ) : Type 0 where
   pub done : List Action
   pub counted : length done ≡ count
@@ -65,7 +57,7 @@ cut-none s = record {
   within = omega arith;
   laid = refl;
   ends = refl;
-  same = sym (change-none (cut 16 s));
+  same = sym (none-in-front (cut 16 s));
 }
 
 module _ {s : List ℕ} {views : List ActionView} {count at : ℕ} (so-far : CutSoFar s views count at) where
@@ -119,7 +111,7 @@ module _ {s : List ℕ} {views : List ActionView} {count at : ℕ} (so-far : Cut
             same =
                 so-far .same
                 ∙ rw (one-more, one-less, cut-first (15 - count) (drop at s) more-left e, after)
-                (change-more done act (cut (15 - count) (drop (at + 11 + length (act .payload)) s)));
+                (more-in-front done act (cut (15 - count) (drop (at + 11 + length (act .payload)) s)));
           }
 
       -- the next header is that of an action

@@ -13,14 +13,14 @@ use lib.Seq.{drop-drop, length-take-le}
 use Rattle.answer.specs.declared.Answer.{Answer}
 use Rattle.answer.specs.Numbers.{answer, badTable}
 use Rattle.answer.specs.Refusable.{Refusable, given, refused, change}
+use Rattle.answer.proofs.Refusing.{chosen-given, chosen-refused, given-not-refused}
 use Rattle.number.specs.Number.{number, numberAt}
 use Rattle.number.proofs.Laws.{number-there}
 use Rattle.account.specs.declared.RecordView.{RecordView}
-use Rattle.table.specs.declared.RecordRead.the-variants.{View, Refused}
 use Rattle.account.specs.Record.{Record}
+use Rattle.table.specs.declared.RecordRead.the-variants.{View, Refused}
 use Rattle.table.specs.Table.{FirstRecord, statedLength, firstRecord, cutRecords, cutTable}
 use Rattle.table.specs.Views.{viewAt, readAt}
-use Rattle.answer.proofs.Refusing.{chosen-given, chosen-refused, given-not-refused}
 
 -- whether the header and the data of the first record are all there
 abbrev isWhole : List ℕ → Bool

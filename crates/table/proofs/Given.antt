@@ -11,10 +11,10 @@ use lib.ListN.{length, take, drop}
 use Rattle.answer.specs.declared.Answer.{Answer}
 use Rattle.answer.specs.Numbers.{answer, badTable}
 use Rattle.answer.specs.Refusable.{Refusable, given, refused}
+use Rattle.answer.proofs.Refusing.{chosen-given, chosen-refused, one-more-given, one-more-refused}
 use Rattle.number.specs.Number.{number}
 use Rattle.account.specs.Record.{Record}
 use Rattle.table.specs.Table.{FirstRecord, firstRecord, cutRecords, cutTable}
-use Rattle.answer.proofs.Refusing.{chosen-given, chosen-refused, one-more-given, one-more-refused}
 use Rattle.table.proofs.Cutting.{IsFirst, first-is, first-refusal, cut-first, cut-refused}
 
 -- no bytes are left after the last record

@@ -9,15 +9,15 @@ use lib.Seq.{drop-drop}
 use Rattle.answer.specs.declared.Answer.{Answer}
 use Rattle.answer.specs.Numbers.{answer, accepted, badTable}
 use Rattle.answer.specs.Refusable.{given, refused, change}
-use Rattle.account.specs.declared.RecordView.{RecordView}
-use Rattle.table.specs.declared.RecordRead.the-variants.{View, Refused}
+use Rattle.answer.proofs.Refusing.{none-in-front, more-in-front}
 use Rattle.number.specs.Number.{numberAt}
+use Rattle.account.specs.declared.RecordView.{RecordView}
 use Rattle.account.specs.Record.{Record}
+use Rattle.account.specs.Views.{rowOf}
+use Rattle.account.proofs.InRow.{row-next}
+use Rattle.table.specs.declared.RecordRead.the-variants.{View, Refused}
 use Rattle.table.specs.Table.{FirstRecord, firstRecord, cutRecords, cutTable}
 use Rattle.table.specs.Views.{viewAt, readAt, placed, placesOf}
-use Rattle.account.specs.Views.{rowOf}
-use Rattle.answer.proofs.Refusing.{none-in-front, more-in-front}
-use Rattle.account.proofs.InRow.{row-next}
 use Rattle.table.proofs.Cutting.{table-counted, IsFirst, first-is, cut-end, cut-more, cut-refused, cut-first, view-first, refused-first}
 
 -- the place after some records that are laid from a place

@@ -9,8 +9,8 @@ use Rattle.answer.specs.Numbers.{answer, badTable}
 use Rattle.answer.specs.Refusable.{given, refused}
 use Rattle.number.specs.Number.{Bytes}
 use Rattle.account.specs.Record.{Record}
-use Rattle.table.specs.Table.{AllStorable, cutTable, recordsOf, glueTable, mostRecords}
 use Rattle.account.specs.Views.{recordsIn}
+use Rattle.table.specs.Table.{AllStorable, cutTable, recordsOf, glueTable, mostRecords}
 use Rattle.table.specs.Views.{placesOf}
 use Rattle.table.proofs.Given.{table-refusal}
 use Rattle.table.proofs.Views.{records-of-places}

@@ -9,14 +9,14 @@ use lib.ListN.{length, take, drop, replicate}
 use lib.Seq.{drop-drop, take-at}
 use Rattle.answer.specs.Numbers.{accepts}
 use Rattle.answer.specs.Refusable.{Refusable, given, refused}
-use Rattle.table.specs.declared.Places.{Places}
 use Rattle.account.specs.Record.{Record}
-use Rattle.table.specs.Table.{FirstRecord, cutRecords, cutTable, recordsOf}
-use Rattle.table.specs.Views.{viewAt, placed, placesOf}
 use Rattle.account.specs.Views.{partAt, recordAt, viewsOf, rowOf, recordsIn}
 use Rattle.account.proofs.Parts.{part-there}
-use Rattle.table.proofs.Cutting.{IsFirst}
 use Rattle.account.proofs.InRow.{views-of-row, length-row}
+use Rattle.table.specs.declared.Places.{Places}
+use Rattle.table.specs.Table.{FirstRecord, cutRecords, cutTable, recordsOf}
+use Rattle.table.specs.Views.{viewAt, placed, placesOf}
+use Rattle.table.proofs.Cutting.{IsFirst}
 use Rattle.table.proofs.Parsing.{length-placed}
 use Rattle.table.proofs.Given.{none-given, one-given, table-given, table-refusal}
 

@@ -5,8 +5,8 @@ use mathlib.Core.Bool.{Bool, _&&_, _||_}
 use mathlib.Core.List.{List, [], _∷_}
 use lib.Dec.{leb}
 use lib.ListN.{length, take, drop}
-use Rattle.key.specs.Key.{sameKey}
 use Rattle.number.specs.Number.{numberAt}
+use Rattle.key.specs.Key.{sameKey}
 use Rattle.account.specs.Record.{Record}
 
 -- the two token programs

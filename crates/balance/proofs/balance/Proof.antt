@@ -4,10 +4,10 @@ use Prim.Native.Nat.{_-_, _/_, _≤_}
 use mathlib.Core.Path.{_≡_, sym}
 use native.Mathlib.Omega.{arith}
 use lib.ListN.{length, drop}
-use Rattle.balance.specs.Balance.{balance}
 use Rattle.account.specs.Views.{recordsIn}
-use Rattle.balance.proofs.Adding.{balance-none, balance-before}
 use Rattle.account.proofs.Views.{length-records}
+use Rattle.balance.specs.Balance.{balance}
+use Rattle.balance.proofs.Adding.{balance-none, balance-before}
 use Rattle.balance.proofs.balance.Statement.{statement}
 use Rattle.balance.proofs.balance.Tie as tie
 

@@ -9,12 +9,12 @@ use mathlib.Core.List.{List}
 use Rattle.answer.specs.declared.Answer.{Answer}
 use Rattle.answer.specs.Numbers.{accepts}
 use Rattle.answer.proofs.Laws.{accepted-is}
+use Rattle.keys.specs.declared.Keys.{Keys}
 use Rattle.action.specs.Action.{Action}
-use Rattle.mints.specs.Mints.{listedMints}
 use Rattle.region.specs.Views.{actionsIn}
 use Rattle.region.proofs.Views.{length-actions}
+use Rattle.mints.specs.Mints.{listedMints}
 use Rattle.account.specs.Views.{recordsIn}
-use Rattle.keys.specs.declared.Keys.{Keys}
 use Rattle.judge.specs.Views.{checksFrom}
 use Rattle.judge.proofs.Steps.{no-rules, rules-unchecked, rules-checked, no-views-settled, region-kept, region-written}
 use borrow.Author.Needs.{needs}

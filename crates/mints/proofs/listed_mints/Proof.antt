@@ -11,13 +11,13 @@ use borrow.Author.Needs.{needs}
 use lib.Dec.{ltb}
 use lib.ListN.{length, drop, set}
 use Rattle.key.specs.declared.Key.{Key}
-use Rattle.keys.specs.declared.Keys.{Keys}
 use Rattle.key.specs.Key.{sameKey}
+use Rattle.keys.specs.declared.Keys.{Keys}
 use Rattle.keys.specs.Keys.{isAmong, keysIn}
 use Rattle.keys.proofs.Searching.{Searched, search-starts, search-room, search-next, search-ended}
-use Rattle.mints.specs.Mints.{withMint, withMints, listedMints}
 use Rattle.action.specs.Views.{actionAt}
 use Rattle.region.specs.Views.{viewsOf, actionsIn}
+use Rattle.mints.specs.Mints.{withMint, withMints, listedMints}
 use Rattle.mints.proofs.Listing.{Filled, none-filled, filled-next, mint-new, mint-room, mint-same, mints-step, mints-end, mints-none}
 use Rattle.mints.proofs.listed_mints.Statement.{statement}
 use Rattle.mints.proofs.listed_mints.Tie as tie
