@@ -2,7 +2,7 @@
 -- Assumes nothing.
 use mathlib.Core.Path.{_≡_, refl, sym, ap, subst, _∙_}
 use mathlib.Core.Bool.{true, cond}
-use mathlib.Core.List.{List, [], _∷_}
+use mathlib.Core.List.{List}
 use Prim.Native.Nat.{ℕ, _+_, _^_, _<_, _≤_}
 use native.Mathlib.Omega.{arith}
 use borrow.Author.Tests.{leb-true}
@@ -82,10 +82,6 @@ pub record Regular (a : Action) : Type 0 where
   pub soon : a .expires < 256 ^ 8
   pub sized : length (a .payload) ≡ dataLength (a .kind)
   pub bytes : Bytes (a .payload)
-
-abbrev pub AllRegular : List Action → Type 0
-AllRegular [] = Unit {0}
-AllRegular (a ∷ l) = Regular a × AllRegular l
 
 module _ {a : Action} (r : Regular a) where
   enough : least (a .kind) ≤ length (a .payload)

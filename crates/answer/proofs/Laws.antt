@@ -7,6 +7,7 @@ use Prim.Native.Nat.{ℕ, _<_}
 use native.Mathlib.Omega.{arith}
 use borrow.Author.Tests.{ne-eqb, eqb-true}
 use Rattle.answer.specs.declared.Answer.{Answer}
+use Rattle.answer.specs.Each.{Each}
 use Rattle.answer.specs.Numbers.{answer, accepted, accepts, firstRefusal, refuseIf}
 
 pub first-passes : (a : Answer) (l : List Answer) → accepts a ≡ true → firstRefusal (a ∷ l) ≡ firstRefusal l
@@ -49,8 +50,7 @@ first-append (a ∷ xs) ys = go (accepts a) refl (first-append xs ys)
 
 -- each of some answers accepts
 abbrev pub EachAccepts : List Answer → Type 0
-EachAccepts [] = Unit {0}
-EachAccepts (a ∷ l) = (accepts a ≡ true) × EachAccepts l
+EachAccepts l = Each (λ (a : Answer). accepts a ≡ true) l
 
 -- so it is where none is the first that refuses
 pub each-accepts : (l : List Answer) → accepts (firstRefusal l) ≡ true → EachAccepts l

@@ -1,3 +1,4 @@
+pub mod Each
 pub mod NamedValue
 pub mod Numbers
 pub mod Outcome

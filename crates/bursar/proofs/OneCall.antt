@@ -8,6 +8,7 @@ use Prim.Native.Nat.{ℕ, _+_, _<_, _≤_}
 use native.Mathlib.Omega.{arith}
 use borrow.Author.Tests.{eqb-true, ltb-true}
 use lib.Dec.{eqb}
+use Rattle.answer.specs.Each.{Each}
 use Rattle.answer.specs.Numbers.{accepts}
 use Rattle.answer.specs.Refusable.{given}
 use Rattle.number.specs.Number.{Bytes, highest}
@@ -16,7 +17,7 @@ use Rattle.key.proofs.Laws.{same-key-eq}
 use Rattle.action.specs.declared.Change.{Change}
 use Rattle.action.specs.Action.{Action, solMaxPerTx}
 use Rattle.action.specs.Fields.{isToken, isRecurring, keyOf, amountsOf, remaining, limit, spent, window, changed}
-use Rattle.action.proofs.Changing.{Regular, AllRegular, changed-kind, changed-key, mint-there, window-kept}
+use Rattle.action.proofs.Changing.{Regular, changed-kind, changed-key, mint-there, window-kept}
 use Rattle.creation.specs.declared.Rule.{Rule}
 use Rattle.creation.specs.declared.Rule.the-variants.{Windowed}
 use Rattle.creation.specs.Creation.{keeps, allKeep, storedActions}
@@ -68,12 +69,7 @@ pub record Found (call : Call) (a : Action) : Type 0 where
   pub regular : Regular a
   pub kept : counts (a .kind) ≡ true → breaks (call .slot) (amountFor call a) a ≡ false
 
--- each of some actions has a property
-abbrev pub Each : (Action → Type 0) → List Action → Type 0
-Each P [] = Unit {0}
-Each P (a ∷ l) = P a × Each P l
-
-each-found : (call : Call) (l : List Action) → AllRegular l → EachKept (call .slot) (charged call l) → Each (Found call) l
+each-found : (call : Call) (l : List Action) → Each Regular l → EachKept (call .slot) (charged call l) → Each (Found call) l
 unfolding charged
 each-found call [] rs ks = tt
 each-found call (a ∷ l) rs ks = (record { regular = rs .0; kept = ks .0 }, each-found call l (rs .1) (ks .1))
@@ -111,7 +107,7 @@ module _ (test : Action → Bool) where
       go rest false h = rest (sym (found-later b l h) ∙ e)
 
   -- where changes keep the test, the action found is the one found before, changed
-  found-changed : (f : Action → Change) (l : List Action) (a : Action) → AllRegular l
+  found-changed : (f : Action → Change) (l : List Action) (a : Action) → Each Regular l
       → ((b : Action) → Regular b → test (changed (f b) b) ≡ test b)
       → firstThat test l ≡ some a → firstThat test (map (λ (b : Action). changed (f b) b) l) ≡ some (changed (f a) a)
   found-changed f [] a rs same e = absurd (apart (sym none-found ∙ e))
@@ -190,7 +186,7 @@ module _ {s t : ℕ} (pair : Pair s t) (fund : Fund) (region : List ℕ) (call :
   was : firstThat (speaksOf s t fund) (st .actions) ≡ some a
   was = ap (firstThat (speaksOf s t fund)) (sym (actions-are region call st)) ∙ is
 
-  regulars : AllRegular (st .actions)
+  regulars : Each Regular (st .actions)
   regulars = stored-is-regular region (st .actions) (st .bytes) (st .stored) .0
 
   windowed : keeps Windowed a ≡ true

@@ -55,10 +55,12 @@ use Rattle.freeze.specs.Freeze.{allFrozen}
 use Rattle.outflow.specs.Outflow.{amountFrom}
 use Rattle.judge.specs.Judge.{callOf as judge-callOf, judged, regionAfter}
 use Rattle.frame.specs.Frame.{callOf as frame-callOf, noTally, openingOf, partIn, partsToRead, tallied}
+use Rattle.frame.specs.declared.Call.{Call}
 use Rattle.frame.specs.declared.Frame.{Frame}
 use Rattle.frame.specs.declared.Opening.{Opening}
 use Rattle.frame.specs.declared.Part.{Part}
 use Rattle.frame.specs.declared.Tally.{Tally}
+use Rattle.framed.specs.Framed.{callIn}
 
 abbrev pub OneOutcome {ℓ} : {A : Type ℓ} → (A → Type ℓ) → Type ℓ
 OneOutcome {A = A} Meets = (x y : A) → Meets x → Meets y → x ≡ y
@@ -515,3 +517,10 @@ frame-Tally-none _ _ p q = one-outcome p q
 pub frame-Tally-with : (self : Tally) («is_accepted» : Bool)
     → OneOutcome (λ (r : Tally). r ≡ tallied self «is_accepted»)
 frame-Tally-with _ _ _ _ p q = one-outcome p q
+
+-- ---- framed
+
+-- framed::judge_call
+pub framed-judge-call : (region bytes : List ℕ) (call : Call)
+    → OneOutcome (λ (o : Answer × List ℕ). (o .0 ≡ judged region (callIn bytes call)) × (o .1 ≡ regionAfter region (callIn bytes call)))
+framed-judge-call _ _ _ _ _ p q = one-outcome (both p) (both q)

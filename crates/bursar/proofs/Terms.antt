@@ -8,6 +8,7 @@ use native.Mathlib.Omega.{arith}
 use borrow.Author.Tests.{eqb-true}
 use lib.Dec.{eqb, ltb}
 use lib.ListN.{length, take}
+use Rattle.answer.specs.Each.{Each}
 use Rattle.answer.specs.Numbers.{accepts}
 use Rattle.key.specs.Key.{sameKey}
 use Rattle.key.proofs.Laws.{same-key-eq}
@@ -26,7 +27,7 @@ use Rattle.judge.specs.Judge.{Call, amountFor, judged, regionAfter}
 use Rattle.judge.proofs.Theorems.{a-refusal-leaves-the-region, writes}
 use Rattle.bursar.specs.Run.{Fund, sol, tokens}
 use Rattle.bursar.specs.Limits.{speaksOf, howMany, fixedAmounts, Terms, termsOf, termsIn}
-use Rattle.bursar.proofs.OneCall.{Stands, Each, Found, Pair, afterCall, after-is-settled, counts-recurring, all-found, actions-are, actions-after}
+use Rattle.bursar.proofs.OneCall.{Stands, Found, Pair, afterCall, after-is-settled, counts-recurring, all-found, actions-are, actions-after}
 
 -- ---- terms
 

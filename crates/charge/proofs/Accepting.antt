@@ -7,6 +7,7 @@ use Prim.Native.Nat.{ℕ, _<_}
 use native.Mathlib.Omega.{arith}
 use borrow.Author.Tests.{eqb-true, ne-eqb}
 use lib.Dec.{eqb, lit<}
+use Rattle.answer.specs.Each.{Each}
 use Rattle.answer.specs.Numbers.{answer, accepted, accepts}
 use Rattle.answer.proofs.Laws.{EachAccepts, each-accepts}
 use Rattle.action.specs.Fields.{isToken, isRecurring}
@@ -21,8 +22,7 @@ counts kind = isLimit kind || isRecurring kind
 
 -- each charge of a type that counts breaks no rule
 abbrev pub EachKept : ℕ → List Charge → Type 0
-EachKept slot [] = Unit {0}
-EachKept slot (c ∷ cs) = (counts (c .act .kind) ≡ true → breaks slot (c .amount) (c .act) ≡ false) × EachKept slot cs
+EachKept slot cs = Each (λ (c : Charge). counts (c .act .kind) ≡ true → breaks slot (c .amount) (c .act) ≡ false) cs
 
 -- one of the types that count: each is in one of the two classes, and its rule has a refusal
 one-of : (kind : ℕ) → counts kind ≡ true → (t : Bool) × (ofClass t kind ≡ true) × (0 < refusalOf kind)

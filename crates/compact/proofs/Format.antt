@@ -11,9 +11,10 @@ use borrow.Author.Tests.{le-leb, lt-leb, leb-true, leb-false}
 use lib.Dec.{leb}
 use lib.ListN.{length, take, drop, length-append, take-append-drop, length-drop}
 use lib.Seq.{length-take-le, take-at, drop-at}
+use Rattle.answer.specs.Each.{Each}
 use Rattle.number.specs.Number.{number, bytesOf, Bytes}
 use Rattle.number.proofs.Laws.{length-bytesOf, number-bytesOf, bytesOf-number, number-below}
-use Rattle.compact.specs.Compact.{Instruction, WritableOne, Each, mostInstructions, mostAccounts, mostPayload, Read, _>>=_, byte, front, encodeOne, encodeEach, decodeOne, decodeEach, decode}
+use Rattle.compact.specs.Compact.{Instruction, WritableOne, mostInstructions, mostAccounts, mostPayload, Read, _>>=_, byte, front, encodeOne, encodeEach, decodeOne, decodeEach, decode}
 
 -- what a step of reading found, where the steps together found something
 found : {A B : Type 0} (o : Option A) (f : A → Option B) {b : B} → (o >>= f) ≡ some b → (a : A) × (o ≡ some a) × (f a ≡ some b)

@@ -9,10 +9,12 @@ use native.Mathlib.Omega.{arith}
 use borrow.Author.Tests.{leb-true, leb-false}
 use lib.Dec.{leb}
 use lib.ListN.{length, length-append}
+use Rattle.answer.specs.Each.{Each}
+use Rattle.answer.proofs.Each.{each-so}
 use Rattle.answer.specs.Numbers.{answer, accepts, accepted}
 use Rattle.number.specs.Number.{Bytes, bytesOf}
 use Rattle.number.proofs.Laws.{bytes-append, bytesOf-bytes}
-use Rattle.compact.specs.Compact.{Instruction, WritableOne, Writable, BeginsWithAList, Each, mostInstructions, mostAccounts, mostPayload, Read, encodeOne, encodeEach, encode, byte, decodeEach, decode, placed, entriesOf, refused, reading}
+use Rattle.compact.specs.Compact.{Instruction, WritableOne, Writable, BeginsWithAList, mostInstructions, mostAccounts, mostPayload, Read, encodeOne, encodeEach, encode, byte, decodeEach, decode, placed, entriesOf, refused, reading}
 use Rattle.compact.proofs.Format.{each-encoded, each-again, each-count, decode-count, decode-too-many}
 use Rattle.compact.proofs.Reading.{outcome, reading-of}
 
@@ -34,8 +36,7 @@ unfolding encode
 decode-encoded is rest few h = decode-count (length is) (encodeEach is ++ rest) few ∙ each-encoded is rest h
 
 pub short : (is : List Instruction) → Each WritableOne is → Each (λ (i : Instruction). length (i .payload) ≤ mostPayload) is
-short [] h = tt
-short (i ∷ is) h = (h .0 .short, short is (h .1))
+short is h = each-so (λ i w. w .short) is h
 
 pub encoded-again : (bytes : List ℕ) (r : Read (List Instruction)) → Bytes bytes → decode bytes ≡ some r → encode (r .value) ++ r .rest ≡ bytes
 unfolding encode

@@ -7,6 +7,7 @@ use mathlib.Core.List.{List, [], _∷_, _++_, map}
 use mathlib.Core.Option.{Option, none, some}
 use lib.Dec.{leb}
 use lib.ListN.{length, take, drop, replicate}
+use Rattle.answer.specs.Each.{Each}
 use Rattle.answer.specs.Numbers.{answer, accepted, invalidInstructionData}
 use Rattle.number.specs.Number.{number, bytesOf, Bytes}
 use Rattle.compact.specs.declared.Range.{Range}
@@ -47,11 +48,6 @@ encodeEach (i ∷ is) = encodeOne i ++ encodeEach is
 -- a list as bytes: count (1), then each instruction
 unfoldable pub encode : List Instruction → List ℕ
 encode is = length is ∷ encodeEach is
-
--- each of some elements is as asked
-abbrev pub Each : {A : Type 0} → (A → Type 0) → List A → Type 0
-Each P [] = Unit {0}
-Each P (x ∷ xs) = P x × Each P xs
 
 -- an instruction of bytes that keeps the writer's limits
 pub record WritableOne (i : Instruction) : Type 0 where

@@ -8,10 +8,11 @@ use native.Mathlib.Omega.{arith}
 use borrow.Author.Tests.{eqb-true}
 use lib.ListN.{length, take, drop, length-drop}
 use lib.Seq.{length-take-le}
+use Rattle.answer.specs.Each.{Each}
 use Rattle.number.specs.Number.{number, Bytes}
 use Rattle.number.proofs.Laws.{number-below, bytes-take, bytes-drop}
 use Rattle.action.specs.Action.{Action, dataLength}
-use Rattle.action.proofs.Changing.{AllRegular}
+use Rattle.action.proofs.Changing.{Regular}
 use Rattle.action.proofs.Lengths.{data-at-most}
 use Rattle.region.proofs.Cuts.{Cuts, none, more}
 use Rattle.creation.specs.declared.Rule.the-variants.{Length}
@@ -28,7 +29,7 @@ region-at-most {s = s} (more {f = f} facts cuts) e =
     omega (arith, data-at-most (f .act .kind))
 
 -- what was cut from bytes, each with its listed length
-pub cut-regular : {n : ℕ} {s : List ℕ} {l : List Action} → Cuts n s l → Bytes s → allKeep Length l ≡ true → AllRegular l
+pub cut-regular : {n : ℕ} {s : List ℕ} {l : List Action} → Cuts n s l → Bytes s → allKeep Length l ≡ true → Each Regular l
 unfolding allKeep keeps
 cut-regular none bytes e = tt
 cut-regular {s = s} (more {f = f} facts cuts) bytes e =

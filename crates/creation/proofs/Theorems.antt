@@ -8,6 +8,7 @@ use native.Mathlib.Omega.{arith}
 use borrow.Author.Tests.{ne-eqb, eqb-true}
 use lib.Dec.{eqb, ltb, lit<}
 use lib.ListN.{length}
+use Rattle.answer.specs.Each.{Each}
 use Rattle.answer.specs.declared.Answer.{Answer}
 use Rattle.answer.specs.Numbers.{answer, accepted, accepts, badRegion, actionBufferInvalid, actionWhitelistBlacklistConflict}
 use Rattle.answer.specs.Refusable.{Refusable, given, refused}
@@ -16,7 +17,7 @@ use Rattle.key.specs.Key.{sameKey}
 use Rattle.action.specs.declared.Change.{Change}
 use Rattle.action.specs.Action.{Action}
 use Rattle.action.specs.Fields.{isToken, isRecurring, keyOf, amountsOf, spent, window, lastReset, changed}
-use Rattle.action.proofs.Changing.{Regular, AllRegular, changed-kind, changed-length, changed-key, changed-regular, mint-there, window-kept}
+use Rattle.action.proofs.Changing.{Regular, changed-kind, changed-length, changed-key, changed-regular, mint-there, window-kept}
 use Rattle.region.specs.Region.{cut, glue, mostActions}
 use Rattle.region.proofs.Gluing.{regular-fit, glue-cut, cut-glue}
 use Rattle.region.proofs.Cuts.{cut-cuts, cut-refuses, cut-at-most}
@@ -194,7 +195,7 @@ module _ (f : Action → Change) where
       go false e = refl
 
   all-keep : (rule : Rule) → ((a : Action) → Regular a → keeps rule (changed (f a) a) ≡ keeps rule a)
-      → (l : List Action) → AllRegular l → allKeep rule (eachChanged l) ≡ allKeep rule l
+      → (l : List Action) → Each Regular l → allKeep rule (eachChanged l) ≡ allKeep rule l
   unfolding allKeep
   all-keep rule same [] rs = refl
   all-keep rule same (a ∷ l) rs = ap₂ (λ (p q : Bool). p && q) (same a (rs .0)) (all-keep rule same l (rs .1))
@@ -211,13 +212,13 @@ module _ (f : Action → Change) where
       go true e = ap (λ (k : List ℕ). sameKey k (keyOf a)) (changed-key (f b) b (mint-there rb) (ap isToken (eqb-true _ _ e) ∙ token))
       go false e = refl
 
-  mint-again-kept : (a : Action) → Regular a → isToken (a .kind) ≡ true → (l : List Action) → AllRegular l
+  mint-again-kept : (a : Action) → Regular a → isToken (a .kind) ≡ true → (l : List Action) → Each Regular l
       → mintAgain (changed (f a) a) (eachChanged l) ≡ mintAgain a l
   unfolding mintAgain
   mint-again-kept a ra token [] rs = refl
   mint-again-kept a ra token (b ∷ l) rs = ap₂ (λ (p q : Bool). p || q) (same-mint a b ra (rs .0) token) (mint-again-kept a ra token l (rs .1))
 
-  mint-repeats-kept : (l : List Action) → AllRegular l → mintRepeats (eachChanged l) ≡ mintRepeats l
+  mint-repeats-kept : (l : List Action) → Each Regular l → mintRepeats (eachChanged l) ≡ mintRepeats l
   unfolding mintRepeats
   mint-repeats-kept [] rs = refl
   mint-repeats-kept (a ∷ l) rs =
@@ -229,7 +230,7 @@ module _ (f : Action → Change) where
       go true e = mint-again-kept a (rs .0) e l (rs .1)
       go false e = refl
 
-  pub formed-changed : (l : List Action) → AllRegular l → Formed Windowed l → Formed Windowed (eachChanged l)
+  pub formed-changed : (l : List Action) → Each Regular l → Formed Windowed l → Formed Windowed (eachChanged l)
   formed-changed l rs form = record {
     lengths = all-keep Length (λ a r. keeps-length a) l rs ∙ form .lengths;
     one-kind-of-list = ap bothLists (kinds-kept l) ∙ form .one-kind-of-list;
@@ -238,16 +239,16 @@ module _ (f : Action → Change) where
     ended = all-keep Windowed keeps-window l rs ∙ form .ended;
   }
 
-  pub regular-changed : (l : List Action) → AllRegular l → AllRegular (eachChanged l)
+  pub regular-changed : (l : List Action) → Each Regular l → Each Regular (eachChanged l)
   regular-changed [] rs = tt
   regular-changed (a ∷ l) rs = (changed-regular (rs .0) (f a), regular-changed l (rs .1))
 
 -- regular actions in form, at most 16, are those of the region that they glue to
-pub glued-is-stored : (l : List Action) → AllRegular l → Formed Windowed l → length l ≤ 16 → storedActions (glue l) ≡ given l
-glued-is-stored l rs form few = stored-given (glue l) (cut-glue mostActions (regular-fit l rs) few) (formed-stored l form)
+pub glued-is-stored : (l : List Action) → Each Regular l → Formed Windowed l → length l ≤ 16 → storedActions (glue l) ≡ given l
+glued-is-stored l rs form few = stored-given (glue l) (cut-glue mostActions l (regular-fit l rs) few) (formed-stored l form)
 
 -- the actions of a region of bytes in stored form are regular, and at most 16
-pub stored-is-regular : (s : List ℕ) (l : List Action) → Bytes s → storedActions s ≡ given l → AllRegular l × (length l ≤ 16)
+pub stored-is-regular : (s : List ℕ) (l : List Action) → Bytes s → storedActions s ≡ given l → Each Regular l × (length l ≤ 16)
 stored-is-regular s l bytes e =
     let (is, form) = stored-is-formed s l e in
     let cuts = cut-cuts mostActions s l is in

@@ -7,12 +7,14 @@ use native.Mathlib.Omega.{arith}
 use borrow.Author.Tests.{le-leb}
 use lib.ListN.{length, getD, take, drop, length-append, length-drop, take-append-drop}
 use lib.Seq.{drop-drop, drop-cons, take-at, drop-at, length-take-le}
+use Rattle.answer.specs.Each.{Each}
+use Rattle.answer.proofs.Each.{each-so}
 use Rattle.answer.specs.Refusable.{given}
 use Rattle.number.specs.Number.{number, bytesOf, Bytes}
 use Rattle.number.proofs.Laws.{bytesOf-number, number-bytesOf, length-bytesOf, bytes-take, bytes-drop, bytes-append, bytesOf-bytes}
 use Rattle.action.specs.Action.{Action, dataLength}
 use Rattle.action.specs.Views.{dataAt, actionAt, writtenAt}
-use Rattle.action.proofs.Changing.{Regular, AllRegular}
+use Rattle.action.proofs.Changing.{Regular}
 use Rattle.action.proofs.Lengths.{known-code, data-at-most}
 use Rattle.action.proofs.Views.{data-there}
 use Rattle.region.specs.Region.{First, first, cut, glueOne, glue, statedLength}
@@ -63,10 +65,6 @@ pub record Fits (a : Action) : Type 0 where
   pub short : length (a .payload) < 256 ^ 2
   pub soon : a .expires < 256 ^ 8
 
-pub data AllFit : List Action → Type 0 where
-  no-more : AllFit []
-  one-more : {a : Action} {l : List Action} → Fits a → AllFit l → AllFit (a ∷ l)
-
 pub length-glueOne : (a : Action) → length (glueOne a) ≡ 11 + length (a .payload)
 unfolding glueOne
 length-glueOne a = simp (length-append, length-bytesOf) (omega arith)
@@ -112,13 +110,13 @@ first-glued a r fits =
     ∙ rw (size, kind-glued a r s is, expires-stated a r s is (fits .soon), payload-glued a r s is, rest-glued a r s is)
 
 -- what was glued, at most n actions, cuts to them
-pub cut-glue : (n : ℕ) {l : List Action} → AllFit l → length l ≤ n → cut n (glue l) ≡ given l
+pub cut-glue : (n : ℕ) (l : List Action) → Each Fits l → length l ≤ n → cut n (glue l) ≡ given l
 unfolding glue
-cut-glue n no-more h = cut-end n [] (omega arith)
-cut-glue zero (one-more fits rest) h = absurd (let z : _≡_ {A = ℕ} 0 1 = omega arith in omega arith)
-cut-glue (suc n) (one-more {a = a} {l = l} fits rest) h =
+cut-glue n [] fit h = cut-end n [] (omega arith)
+cut-glue zero (a ∷ l) fit h = absurd (let z : _≡_ {A = ℕ} 0 1 = omega arith in omega arith)
+cut-glue (suc n) (a ∷ l) fit h =
     let some : 0 < length (glueOne a ++ glue l) = rw (length-append (glueOne a) (glue l), length-glueOne a) (omega arith) in
-    cut-first n (glueOne a ++ glue l) some (first-glued a (glue l) fits) ∙ rw (cut-glue n rest (omega arith))
+    cut-first n (glueOne a ++ glue l) some (first-glued a (glue l) (fit .0)) ∙ rw (cut-glue n l (fit .1) (omega arith))
 
 -- ---- an action among others
 
@@ -188,11 +186,10 @@ module _ {a : Action} (r : Regular a) where
       (r .bytes) i
 
 -- regular actions glue to bytes
-pub bytes-glued : (l : List Action) → AllRegular l → Bytes (glue l)
+pub bytes-glued : (l : List Action) → Each Regular l → Bytes (glue l)
 unfolding glue
 bytes-glued [] rs = λ i. omega arith
 bytes-glued (a ∷ l) rs = bytes-append (glueOne a) (glue l) (bytes-glued-one (rs .0)) (bytes-glued l (rs .1))
 
-pub regular-fit : (l : List Action) → AllRegular l → AllFit l
-regular-fit [] rs = no-more
-regular-fit (a ∷ l) rs = one-more (fits (rs .0)) (regular-fit l (rs .1))
+pub regular-fit : (l : List Action) → Each Regular l → Each Fits l
+regular-fit l rs = each-so (λ a. fits {a = a}) l rs

@@ -66,26 +66,8 @@ fn fetch_call(buffer: &mut [u8]) -> usize
     read_more(buffer, got, len)
 }
 
-fn judge_call(region: &mut [u8], bytes: &[u8], call: Call) -> Answer {
-    let earlier = call.earlier;
-    let later = call.later;
-    let instructions = call.instructions;
-    let vault = call.vault;
-    judge::judge(
-        region,
-        frame::part_of(bytes, earlier),
-        frame::part_of(bytes, later),
-        frame::part_of(bytes, instructions),
-        frame::part_of(bytes, vault),
-        call.slot,
-        call.before,
-        call.after,
-        call.gross,
-    )
-}
-
 fn answer_call(region: &mut [u8], bytes: &[u8], call: Call, tally: Tally) -> Next {
-    let answer = judge_call(region, bytes, call);
+    let answer = framed::judge_call(region, bytes, call);
     let more = tally.with(answer.accepts());
     print_call(more.calls, answer);
     Next::Go(more)

@@ -6,11 +6,12 @@ use Prim.Native.Nat.{ℕ, zero, suc, _+_, _≤_}
 use native.Mathlib.Omega.{arith}
 use lib.ListN.{length, take, drop, length-append, length-drop, take-append-drop}
 use lib.Seq.{take-at, drop-at, drop-drop, take-add, length-take-le}
+use Rattle.answer.specs.Each.{Each}
 use Rattle.answer.specs.Refusable.{given}
 use Rattle.number.specs.Number.{Bytes, number, bytesOf, numberAt}
 use Rattle.number.proofs.Laws.{length-bytesOf, number-bytesOf, bytesOf-number, number-there, bytes-take, bytes-drop}
 use Rattle.account.specs.Record.{Record}
-use Rattle.table.specs.Table.{FirstRecord, Storable, AllStorable, statedLength, firstRecord, cutRecords, cutTable, glueRecord, glueRecords, glueTable}
+use Rattle.table.specs.Table.{FirstRecord, Storable, statedLength, firstRecord, cutRecords, cutTable, glueRecord, glueRecords, glueTable}
 use Rattle.table.proofs.Cutting.{IsFirst, first-given, cut-first, table-counted}
 use Rattle.table.proofs.Given.{none-given, one-given, given-length, table-given}
 
@@ -56,13 +57,13 @@ first-glued r after (hk, ho, hp) =
     rw (append-assoc (r .key ++ r .owner ++ len) (r .payload) after, append-assoc (r .key ++ r .owner) len (r .payload ++ after), append-assoc (r .key) (r .owner) (len ++ (r .payload ++ after)))
     (row-first (r .key) (r .owner) len (r .payload) after hk ho (length-bytesOf 4 (length (r .payload))) (number-bytesOf 4 (length (r .payload)) hp))
 
-records-glued : (l : List Record) → AllStorable l → cutRecords (length l) (glueRecords l) ≡ given l
+records-glued : (l : List Record) → Each Storable l → cutRecords (length l) (glueRecords l) ≡ given l
 unfolding glueRecords cutRecords
 records-glued [] h = refl
 records-glued (r ∷ l) (one, others) =
     cut-first (length l) (glueRecord r ++ glueRecords l) (first-glued r (glueRecords l) one) ∙ rw (records-glued l others)
 
-pub table-glued : (l : List Record) → length l ≤ 64 → AllStorable l → cutTable (glueTable l) ≡ given l
+pub table-glued : (l : List Record) → length l ≤ 64 → Each Storable l → cutTable (glueTable l) ≡ given l
 unfolding glueTable
 table-glued l few sound =
     let count = bytesOf 2 (length l) in

@@ -6,11 +6,12 @@ use Prim.Native.Nat.{ℕ, _*_, _≤_}
 use lib.ListN.{length, take}
 use Rattle.answer.specs.declared.Answer.{Answer}
 use Rattle.answer.specs.Numbers.{answer, badTable}
+use Rattle.answer.specs.Each.{Each}
 use Rattle.answer.specs.Refusable.{given, refused}
 use Rattle.number.specs.Number.{Bytes}
 use Rattle.account.specs.Record.{Record}
 use Rattle.account.specs.Views.{recordsIn}
-use Rattle.table.specs.Table.{AllStorable, cutTable, recordsOf, glueTable, mostRecords}
+use Rattle.table.specs.Table.{Storable, cutTable, recordsOf, glueTable, mostRecords}
 use Rattle.table.specs.Views.{placesOf}
 use Rattle.table.proofs.Given.{table-refusal}
 use Rattle.table.proofs.Views.{records-of-places}
@@ -21,7 +22,7 @@ pub every-refusal-of-a-table-is-13 : (s : List ℕ) (r : Answer) → cutTable s 
 every-refusal-of-a-table-is-13 s r e = table-refusal s r e
 
 -- records that a table can hold, at most 64, are cut again from the bytes that they are glued to
-pub cutting-what-was-glued-gives-the-records : (l : List Record) → length l ≤ mostRecords → AllStorable l → cutTable (glueTable l) ≡ given l
+pub cutting-what-was-glued-gives-the-records : (l : List Record) → length l ≤ mostRecords → Each Storable l → cutTable (glueTable l) ≡ given l
 cutting-what-was-glued-gives-the-records l few sound = table-glued l few sound
 
 -- a table's records are glued to its bytes

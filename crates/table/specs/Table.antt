@@ -79,8 +79,3 @@ glueTable l = bytesOf tableHeader (length l) ++ glueRecords l
 -- what a table can hold: a key and an owning program of 32 bytes, data whose length fits 4 bytes
 abbrev pub Storable : Record → Type 0
 Storable r = (length (r .key) ≡ 32) × (length (r .owner) ≡ 32) × (length (r .payload) < 256 ^ 4)
-
--- each of some records can be held
-abbrev pub AllStorable : List Record → Type 0
-AllStorable [] = Unit {0}
-AllStorable (r ∷ l) = Storable r × AllStorable l

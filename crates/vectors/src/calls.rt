@@ -1,33 +1,13 @@
 // The judged call.
 use crate::text;
-use answer::Answer;
-use frame::Call;
 use frame::Frame;
-
-fn judge_call(region: &mut [u8], bytes: &[u8], call: Call) -> Answer {
-    let earlier = call.earlier;
-    let later = call.later;
-    let instructions = call.instructions;
-    let vault = call.vault;
-    judge::judge(
-        region,
-        frame::part_of(bytes, earlier),
-        frame::part_of(bytes, later),
-        frame::part_of(bytes, instructions),
-        frame::part_of(bytes, vault),
-        call.slot,
-        call.before,
-        call.after,
-        call.gross,
-    )
-}
 
 // Judges a call in place and prints the number and the region afterwards.
 fn judge_frame(region: &mut [u8], bytes: &[u8]) -> bool {
     let Frame::Whole(call) = frame::read_call(bytes) else {
         return false;
     };
-    let answer = judge_call(region, bytes, call);
+    let answer = framed::judge_call(region, bytes, call);
     text::print_number(answer.number as u64);
     text::print_next_hex(region);
     true
