@@ -1,4 +1,4 @@
-pub mod Changing
 pub mod Lengths
+pub mod Regular
 pub mod Table
 pub mod Views

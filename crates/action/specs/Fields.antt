@@ -2,13 +2,11 @@
 -- Assumes nothing.
 use Prim.Native.Nat.{ℕ}
 use mathlib.Core.Bool.{Bool, cond, _||_}
-use mathlib.Core.List.{List, _++_}
+use mathlib.Core.List.{List}
 use lib.Dec.{eqb}
 use lib.ListN.{take, drop}
-use Rattle.number.specs.Number.{numberAt, withNumberAt}
+use Rattle.number.specs.Number.{numberAt}
 use Rattle.key.specs.Key.{keyLength}
-use Rattle.action.specs.declared.Change.{Change}
-use Rattle.action.specs.declared.Change.the-variants.{Nothing, Remaining, Spent}
 use Rattle.action.specs.Action.{Action, tokenLimit, tokenRecurringLimit, tokenMaxPerTx, solRecurringLimit}
 
 -- whether a type's data begins with a mint
@@ -30,10 +28,6 @@ mintLength kind = cond (isToken kind) keyLength 0
 -- the amounts of an action: its data, after the mint where it has one
 unfoldable pub amountsOf : Action → List ℕ
 amountsOf a = drop (mintLength (a .kind)) (a .payload)
-
--- an action with other amounts
-unfoldable pub withAmounts : Action → List ℕ → Action
-withAmounts a amounts = record { kind = a .kind; expires = a .expires; payload = take (mintLength (a .kind)) (a .payload) ++ amounts }
 
 -- ---- the numbers among some amounts
 
@@ -57,22 +51,3 @@ window amounts = numberAt 8 amounts 16
 
 abbrev pub lastReset : List ℕ → ℕ
 lastReset amounts = numberAt 8 amounts 24
-
--- amounts with another number left
-abbrev pub withRemaining : List ℕ → ℕ → List ℕ
-withRemaining amounts n = withNumberAt 8 amounts 0 n
-
--- amounts with another number spent and another last reset
-abbrev pub withSpent : List ℕ → ℕ → ℕ → List ℕ
-withSpent amounts spentNow resetNow = withNumberAt 8 (withNumberAt 8 amounts 8 spentNow) 24 resetNow
-
--- amounts after a change
-abbrev pub changedAmounts : Change → List ℕ → List ℕ
-changedAmounts Nothing amounts = amounts
-changedAmounts (Remaining n) amounts = withRemaining amounts n
-changedAmounts (Spent spentNow resetNow) amounts = withSpent amounts spentNow resetNow
-
--- an action after a change
-unfoldable pub changed : Change → Action → Action
-unfolding withAmounts amountsOf
-changed change a = withAmounts a (changedAmounts change (amountsOf a))

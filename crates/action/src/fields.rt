@@ -1,6 +1,5 @@
-// The fields of an action's data, each read from a part that starts at its data and written to one.
+// The fields of an action's data, each read from a part that starts at its data.
 use crate::ActionView;
-use crate::Change;
 use crate::SOL_RECURRING_LIMIT;
 use crate::TOKEN_LIMIT;
 use crate::TOKEN_MAX_PER_TX;
@@ -8,9 +7,9 @@ use crate::TOKEN_RECURRING_LIMIT;
 use key::KEY_LENGTH;
 ghost use mathlib.Core.Path.{_≡_};
 ghost use Rattle.action.specs.Action.{expired};
-ghost use Rattle.action.specs.Views.{actionAt, dataAt, writtenAt};
-ghost use Rattle.action.specs.Fields.{isToken, isRecurring, keyOf, mintLength, amountsOf, changedAmounts, changed};
-ghost use Rattle.action.specs.Fields.{remaining as remainingOf, maximum as maximumOf, limit as limitOf, spent as spentOf, window as windowOf, lastReset, withSpent};
+ghost use Rattle.action.specs.Views.{actionAt, dataAt};
+ghost use Rattle.action.specs.Fields.{isToken, isRecurring, keyOf, mintLength, amountsOf};
+ghost use Rattle.action.specs.Fields.{remaining as remainingOf, maximum as maximumOf, limit as limitOf, spent as spentOf, window as windowOf, lastReset};
 
 pub fn is_token(kind: u8) -> bool
     ensures { λ r. ⌜ r ≡ isToken kind ⌝ }
@@ -82,7 +81,7 @@ pub fn amounts_of(region: &[u8], view: ActionView) -> &[u8]
 }
 
 // The bytes of the mint before a type's amounts.
-fn mint_length(kind: u8) -> usize
+pub fn mint_length(kind: u8) -> usize
     ensures { λ r. ⌜ r ≡ mintLength kind ⌝ }
 {
     if is_token(kind) { KEY_LENGTH } else { 0 }
@@ -122,43 +121,4 @@ pub fn last_reset(amounts: &[u8]) -> u64
     ensures { λ r. ⌜ r ≡ lastReset (now (amounts .entry)) ⌝ }
 {
     number::read_u64(amounts, 24)
-}
-
-fn write_spent(amounts: &mut [u8], spent: u64, reset: u64)
-    ensures { λ _. ⌜ now (amounts .exit) ≡ withSpent (now (amounts .entry)) spent reset ⌝ }
-{
-    number::write_u64(amounts, 8, spent);
-    number::write_u64(amounts, 24, reset);
-}
-
-// Writes a change into the amounts of an action; every other byte stays.
-pub fn write_change(amounts: &mut [u8], change: Change)
-    ensures { λ _. ⌜ now (amounts .exit) ≡ changedAmounts change (now (amounts .entry)) ⌝ }
-{
-    match change {
-        Change::Nothing => {}
-        Change::Remaining(remaining) => {
-            number::write_u64(amounts, 0, remaining);
-        }
-        Change::Spent(spent, reset) => write_spent(amounts, spent, reset),
-    }
-}
-
-// Writes a change into an action's data where it lies in a region.
-pub fn apply_change(region: &mut [u8], view: ActionView, change: Change)
-    ensures { λ _. ⌜ now (region .exit) ≡ writtenAt (now (region .entry)) view (changed change (actionAt (now (region .entry)) view)) ⌝ }
-{
-    let at = view.at;
-    let len = view.len;
-    if region.len() < len {
-        return;
-    }
-    if region.len() - len < at {
-        return;
-    }
-    let skip = mint_length(view.kind);
-    if len < skip {
-        return;
-    }
-    write_change(&mut region[at + skip..at + len], change);
 }

@@ -1,5 +1,5 @@
-// One action: the codes of the types and their data lengths, where an action lies, what a call writes
-// into it, and the fields of its data. Any bytes get an answer.
+// One action: the codes of the types and their data lengths, where an action lies, and the fields of its
+// data. Any bytes get an answer.
 pub mod fields;
 
 ghost use mathlib.Core.Path.{_≡_};
@@ -27,14 +27,6 @@ pub struct ActionView {
     pub expires: u64,
     pub at: usize,
     pub len: usize,
-}
-
-// What an accepted call writes into an action: nothing, what is left of a limit, or what is spent in
-// a window and the slot that the window began at.
-pub enum Change {
-    Nothing,
-    Remaining(u64),
-    Spent(u64, u64),
 }
 
 // The data lengths by type code, 0 for unknown codes.

@@ -9,7 +9,8 @@ use Rattle.answer.specs.Numbers.{firstRefusal}
 use Rattle.number.specs.Number.{number, bytesOf, numberAt, cappedSum, flooredDifference, withNumberAt, highest}
 use Rattle.key.specs.Key.{sameKey, sameBytes}
 use Rattle.action.specs.Action.{dataLength, sizeAmong, expired}
-use Rattle.action.specs.Fields.{isToken, isRecurring, keyOf, amountsOf, changed, withAmounts}
+use Rattle.action.specs.Fields.{isToken, isRecurring, keyOf, amountsOf}
+use Rattle.change.specs.Changed.{changed, withAmounts}
 use Rattle.region.specs.Region.{glue, glueOne, cut, first, statedLength}
 use Rattle.creation.specs.Creation.{formOf, allKeep, keeps, bothLists, solRepeats, howOften, mintRepeats, mintAgain, inStoredForm, storedActions, creation}
 use Rattle.mints.specs.Mints.{isListed}

@@ -14,10 +14,12 @@ use Rattle.answer.specs.Refusable.{given}
 use Rattle.number.specs.Number.{Bytes, highest}
 use Rattle.key.specs.Key.{sameKey}
 use Rattle.key.proofs.Laws.{same-key-eq}
-use Rattle.action.specs.declared.Change.{Change}
 use Rattle.action.specs.Action.{Action, solMaxPerTx}
-use Rattle.action.specs.Fields.{isToken, isRecurring, keyOf, amountsOf, remaining, limit, spent, window, changed}
-use Rattle.action.proofs.Changing.{Regular, changed-kind, changed-key, mint-there, window-kept}
+use Rattle.action.specs.Fields.{isToken, isRecurring, keyOf, amountsOf, remaining, limit, spent, window}
+use Rattle.action.proofs.Regular.{Regular, mint-there}
+use Rattle.change.specs.declared.Change.{Change}
+use Rattle.change.specs.Changed.{changed}
+use Rattle.change.proofs.Changing.{changed-kind, changed-key, window-kept}
 use Rattle.creation.specs.declared.Rule.{Rule}
 use Rattle.creation.specs.declared.Rule.the-variants.{Windowed}
 use Rattle.creation.specs.Creation.{keeps, allKeep, storedActions}

@@ -18,10 +18,11 @@ use Rattle.key.specs.declared.Key.{Key}
 use Rattle.keys.specs.Keys.{isAmong, keysIn, keysOf, mostKeys, withKey}
 use Rattle.keys.specs.declared.Keys.{Keys}
 use Rattle.action.specs.Action.{dataLength, expired}
-use Rattle.action.specs.Fields.{amountsOf, changed, changedAmounts, isRecurring, isToken, keyOf, lastReset, limit as limitOf, maximum as maximumOf, remaining as remainingOf, spent as spentOf, window as windowOf}
+use Rattle.action.specs.Fields.{amountsOf, isRecurring, isToken, keyOf, lastReset, limit as limitOf, maximum as maximumOf, mintLength, remaining as remainingOf, spent as spentOf, window as windowOf}
 use Rattle.action.specs.Views.{actionAt, dataAt, writtenAt, zeroView as action-zeroView}
 use Rattle.action.specs.declared.ActionView.{ActionView}
-use Rattle.action.specs.declared.Change.{Change}
+use Rattle.change.specs.Changed.{changed}
+use Rattle.change.specs.declared.Change.{Change}
 use Rattle.region.specs.Region.{cut, mostActions}
 use Rattle.region.specs.Views.{actionsIn, headerAnswer, headerAt, kindsIn, parsedOf, viewsOf as region-viewsOf}
 use Rattle.region.specs.declared.HeaderRead.{HeaderRead}
@@ -198,6 +199,11 @@ pub action-fields-amounts-of : (region : List ℕ) (view : ActionView)
     → OneOutcome (λ (r : List ℕ). r ≡ amountsOf (actionAt region view))
 action-fields-amounts-of _ _ _ _ p q = one-outcome p q
 
+-- action::fields::mint_length
+pub action-fields-mint-length : (kind : ℕ)
+    → OneOutcome (λ (r : ℕ). r ≡ mintLength kind)
+action-fields-mint-length _ _ _ p q = one-outcome p q
+
 -- action::fields::remaining
 pub action-fields-remaining : (amounts : List ℕ)
     → OneOutcome (λ (r : ℕ). r ≡ remainingOf amounts)
@@ -228,20 +234,17 @@ pub action-fields-last-reset : (amounts : List ℕ)
     → OneOutcome (λ (r : ℕ). r ≡ lastReset amounts)
 action-fields-last-reset _ _ _ p q = one-outcome p q
 
--- action::fields::write_change
-pub action-fields-write-change : (amounts : List ℕ) (change : Change)
-    → OneOutcome (λ (o : List ℕ). o ≡ changedAmounts change amounts)
-action-fields-write-change _ _ _ _ p q = one-outcome p q
-
--- action::fields::apply_change
-pub action-fields-apply-change : (region : List ℕ) (view : ActionView) (change : Change)
-    → OneOutcome (λ (o : List ℕ). o ≡ writtenAt region view (changed change (actionAt region view)))
-action-fields-apply-change _ _ _ _ _ p q = one-outcome p q
-
 -- action::expected_data_size
 pub action-expected-data-size : (code : ℕ)
     → OneOutcome (λ (r : ℕ). r ≡ dataLength code)
 action-expected-data-size _ _ _ p q = one-outcome p q
+
+-- ---- change
+
+-- change::apply_change
+pub change-apply-change : (region : List ℕ) (view : ActionView) (change : Change)
+    → OneOutcome (λ (o : List ℕ). o ≡ writtenAt region view (changed change (actionAt region view)))
+change-apply-change _ _ _ _ _ p q = one-outcome p q
 
 -- ---- region
 

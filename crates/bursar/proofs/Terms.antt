@@ -12,11 +12,13 @@ use Rattle.answer.specs.Each.{Each}
 use Rattle.answer.specs.Numbers.{accepts}
 use Rattle.key.specs.Key.{sameKey}
 use Rattle.key.proofs.Laws.{same-key-eq}
-use Rattle.action.specs.declared.Change.{Change}
-use Rattle.action.specs.declared.Change.the-variants.{Nothing}
 use Rattle.action.specs.Action.{Action, expired}
-use Rattle.action.specs.Fields.{isToken, isRecurring, keyOf, mintLength, amountsOf, limit, window, changedAmounts}
-use Rattle.action.proofs.Changing.{mint-there, changed-kind, changed-expires, changed-length, changed-mint, changed-amounts, window-kept}
+use Rattle.action.specs.Fields.{isToken, isRecurring, keyOf, mintLength, amountsOf, limit, window}
+use Rattle.action.proofs.Regular.{mint-there}
+use Rattle.change.specs.declared.Change.{Change}
+use Rattle.change.specs.declared.Change.the-variants.{Nothing}
+use Rattle.change.specs.Changed.{changedAmounts}
+use Rattle.change.proofs.Changing.{changed-kind, changed-expires, changed-length, changed-mint, changed-amounts, window-kept}
 use Rattle.creation.specs.declared.Rule.the-variants.{Windowed}
 use Rattle.creation.specs.Creation.{kindsOf, howOften, mintAgain, mintRepeats}
 use Rattle.creation.proofs.Theorems.{Formed}

@@ -13,10 +13,10 @@ use Rattle.answer.specs.declared.Answer.{Answer}
 use Rattle.answer.specs.Numbers.{answer, accepted, accepts}
 use Rattle.answer.proofs.Laws.{first-passes, first-refuses, no-rule}
 use Rattle.action.specs.declared.ActionView.{ActionView}
-use Rattle.action.specs.declared.Change.{Change}
 use Rattle.action.specs.Action.{Action}
-use Rattle.action.specs.Fields.{changed}
 use Rattle.action.specs.Views.{zeroView, actionAt, writtenAt}
+use Rattle.change.specs.declared.Change.{Change}
+use Rattle.change.specs.Changed.{changed}
 use Rattle.region.specs.Views.{viewsOf, actionsIn}
 use Rattle.region.proofs.Views.{actions-step, length-actions}
 use Rattle.limit.specs.Limit.{Charge, ruleAnswer, changeOf, settled}

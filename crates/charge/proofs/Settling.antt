@@ -7,7 +7,7 @@ use native.Mathlib.Omega.{arith}
 use lib.ListN.{length, length-append}
 use Rattle.action.specs.Action.{Action}
 use Rattle.action.specs.Views.{actionAt, writtenAt}
-use Rattle.action.proofs.Changing.{changed-kind, changed-expires, changed-length}
+use Rattle.change.proofs.Changing.{changed-kind, changed-expires, changed-length}
 use Rattle.region.specs.Region.{glueOne, glue}
 use Rattle.region.specs.Views.{viewAt, placed, viewsOf}
 use Rattle.region.proofs.Gluing.{glue-append, length-glueOne, glued-action, glued-written}

@@ -12,7 +12,7 @@ use Rattle.answer.specs.Each.{Each}
 use Rattle.number.specs.Number.{number, Bytes}
 use Rattle.number.proofs.Laws.{number-below, bytes-take, bytes-drop}
 use Rattle.action.specs.Action.{Action, dataLength}
-use Rattle.action.proofs.Changing.{Regular}
+use Rattle.action.proofs.Regular.{Regular}
 use Rattle.action.proofs.Lengths.{data-at-most}
 use Rattle.region.proofs.Cuts.{Cuts, none, more}
 use Rattle.creation.specs.declared.Rule.the-variants.{Length}

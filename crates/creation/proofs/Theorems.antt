@@ -14,10 +14,12 @@ use Rattle.answer.specs.Numbers.{answer, accepted, accepts, badRegion, actionBu
 use Rattle.answer.specs.Refusable.{Refusable, given, refused}
 use Rattle.number.specs.Number.{Bytes}
 use Rattle.key.specs.Key.{sameKey}
-use Rattle.action.specs.declared.Change.{Change}
 use Rattle.action.specs.Action.{Action}
-use Rattle.action.specs.Fields.{isToken, isRecurring, keyOf, amountsOf, spent, window, lastReset, changed}
-use Rattle.action.proofs.Changing.{Regular, changed-kind, changed-length, changed-key, changed-regular, mint-there, window-kept}
+use Rattle.action.specs.Fields.{isToken, isRecurring, keyOf, amountsOf, spent, window, lastReset}
+use Rattle.action.proofs.Regular.{Regular, mint-there}
+use Rattle.change.specs.declared.Change.{Change}
+use Rattle.change.specs.Changed.{changed}
+use Rattle.change.proofs.Changing.{changed-kind, changed-length, changed-key, changed-regular, window-kept}
 use Rattle.region.specs.Region.{cut, glue, mostActions}
 use Rattle.region.proofs.Gluing.{regular-fit, glue-cut, cut-glue}
 use Rattle.region.proofs.Cuts.{cut-cuts, cut-refuses, cut-at-most}

@@ -14,9 +14,9 @@ use Rattle.answer.specs.Numbers.{answer, accepted, accepts, firstRefusal, refus
 use Rattle.answer.specs.Refusable.{Refusable, given, refused}
 use Rattle.answer.proofs.Laws.{first-passes, first-refuses, no-rule, EachAccepts, each-accepts}
 use Rattle.number.specs.Number.{Bytes}
-use Rattle.action.specs.declared.Change.{Change}
 use Rattle.action.specs.Action.{Action, solLimit, solRecurringLimit, solMaxPerTx, tokenLimit, tokenRecurringLimit, tokenMaxPerTx}
-use Rattle.action.specs.Fields.{changed}
+use Rattle.change.specs.declared.Change.{Change}
+use Rattle.change.specs.Changed.{changed}
 use Rattle.region.specs.Region.{glue}
 use Rattle.region.proofs.Gluing.{bytes-glued}
 use Rattle.creation.specs.Creation.{howOften, kindsOf, storedActions}

@@ -9,9 +9,9 @@ use borrow.Author.Tests.{lt-ltb, le-ltb, ne-eqb}
 use lib.Dec.{ltb}
 use Rattle.answer.specs.Numbers.{answer, accepted}
 use Rattle.number.specs.Number.{cappedSum, flooredDifference}
-use Rattle.action.specs.declared.Change.the-variants.{Nothing, Remaining, Spent}
 use Rattle.action.specs.Action.{Action, expired}
 use Rattle.action.specs.Fields.{isRecurring, amountsOf, remaining, limit, spent, window, lastReset}
+use Rattle.change.specs.declared.Change.the-variants.{Nothing, Remaining, Spent}
 use Rattle.limit.specs.Limit.{Charge, refusalOf, windowOver, base, above, breaks, ruleAnswer, spentChange, isLimit, liveChange, changeOf}
 
 -- a code past the table has no rule

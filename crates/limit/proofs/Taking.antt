@@ -12,11 +12,13 @@ use lib.Dec.{eqb, ltb, lit≤}
 use lib.ListN.{length}
 use Rattle.number.specs.Number.{withNumberAt, cappedSum, flooredDifference, highest}
 use Rattle.number.proofs.Laws.{read-back, read-before, read-below, length-with-number}
-use Rattle.action.specs.declared.Change.{Change}
-use Rattle.action.specs.declared.Change.the-variants.{Nothing}
 use Rattle.action.specs.Action.{expired}
-use Rattle.action.specs.Fields.{isRecurring, amountsOf, remaining, limit, spent, window, lastReset, changedAmounts}
-use Rattle.action.proofs.Changing.{Regular, mint-there, amounts-there, amounts-are-bytes, changed-amounts}
+use Rattle.action.specs.Fields.{isRecurring, amountsOf, remaining, limit, spent, window, lastReset}
+use Rattle.action.proofs.Regular.{Regular, mint-there, amounts-there, amounts-are-bytes}
+use Rattle.change.specs.declared.Change.{Change}
+use Rattle.change.specs.declared.Change.the-variants.{Nothing}
+use Rattle.change.specs.Changed.{changedAmounts}
+use Rattle.change.proofs.Changing.{changed-amounts}
 use Rattle.limit.specs.Limit.{Charge, windowOver, base, above, breaks, spentChange, isLimit, liveChange, changeOf, settled}
 use Rattle.limit.proofs.Rules.{above-recurring, above-other, change-recurring, change-limit, breaks-expired, breaks-above, unchanged-nothing, changed-live, spent-anew, spent-more}
 

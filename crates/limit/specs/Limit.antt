@@ -7,10 +7,11 @@ use lib.Dec.{eqb, ltb}
 use Rattle.answer.specs.declared.Answer.{Answer}
 use Rattle.answer.specs.Numbers.{accepted, refuseIf, actionSolMaxPerTxExceeded, actionSolLimitExceeded, actionSolRecurringLimitExceeded, actionTokenMaxPerTxExceeded, actionTokenLimitExceeded, actionTokenRecurringLimitExceeded}
 use Rattle.number.specs.Number.{cappedSum, flooredDifference}
-use Rattle.action.specs.declared.Change.{Change}
-use Rattle.action.specs.declared.Change.the-variants.{Nothing, Remaining, Spent}
 use Rattle.action.specs.Action.{Action, expired, solLimit, solRecurringLimit, solMaxPerTx, tokenLimit, tokenRecurringLimit, tokenMaxPerTx}
-use Rattle.action.specs.Fields.{isRecurring, amountsOf, remaining, limit, spent, window, lastReset, changed}
+use Rattle.action.specs.Fields.{isRecurring, amountsOf, remaining, limit, spent, window, lastReset}
+use Rattle.change.specs.declared.Change.{Change}
+use Rattle.change.specs.declared.Change.the-variants.{Nothing, Remaining, Spent}
+use Rattle.change.specs.Changed.{changed}
 
 -- an action and the amount that its rule looks at
 pub record Charge : Type 0 where

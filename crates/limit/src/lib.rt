@@ -1,7 +1,6 @@
 // The rule of one limit, for SOL and tokens alike, and what is written when it is kept. It reads an
 // action's amounts from the part of the region that they lie in.
 use action::ActionView;
-use action::Change;
 use action::SOL_LIMIT;
 use action::TOKEN_LIMIT;
 use action::fields::amounts_of;
@@ -14,6 +13,7 @@ use action::fields::spent;
 use action::fields::window;
 use answer::ACCEPTED;
 use answer::Answer;
+use change::Change;
 use number::capped_sum;
 use number::floored_difference;
 ghost use mathlib.Core.Path.{_≡_};

@@ -14,7 +14,7 @@ use Rattle.number.specs.Number.{number, bytesOf, Bytes}
 use Rattle.number.proofs.Laws.{bytesOf-number, number-bytesOf, length-bytesOf, bytes-take, bytes-drop, bytes-append, bytesOf-bytes}
 use Rattle.action.specs.Action.{Action, dataLength}
 use Rattle.action.specs.Views.{dataAt, actionAt, writtenAt}
-use Rattle.action.proofs.Changing.{Regular}
+use Rattle.action.proofs.Regular.{Regular}
 use Rattle.action.proofs.Lengths.{known-code, data-at-most}
 use Rattle.action.proofs.Views.{data-there}
 use Rattle.region.specs.Region.{First, first, cut, glueOne, glue, statedLength}

@@ -1,21 +1,21 @@
 -- What a change of an action's amounts keeps: the type, the expiry, the data's length, the mint; and that they stay bytes.
 -- Assumes nothing.
 use mathlib.Core.Path.{_≡_, refl, sym, ap, subst, _∙_}
-use mathlib.Core.Bool.{true, cond}
+use mathlib.Core.Bool.{true}
 use mathlib.Core.List.{List}
-use Prim.Native.Nat.{ℕ, _+_, _^_, _<_, _≤_}
+use Prim.Native.Nat.{ℕ, _+_, _≤_}
 use native.Mathlib.Omega.{arith}
-use borrow.Author.Tests.{leb-true}
-use lib.Dec.{leb, lit≤}
+use lib.Dec.{lit≤}
 use lib.ListN.{length, take, drop, length-append, length-take, length-drop}
 use lib.Seq.{take-at, drop-at, length-take-le}
 use Rattle.number.specs.Number.{withNumberAt, Bytes}
 use Rattle.number.proofs.Laws.{read-before, read-after, length-with-number, bytes-take, bytes-drop, bytes-append, bytes-with-number}
-use Rattle.action.specs.declared.Change.{Change}
-use Rattle.action.specs.declared.Change.the-variants.{Nothing, Remaining, Spent}
 use Rattle.action.specs.Action.{Action, dataLength}
-use Rattle.action.specs.Fields.{isToken, isRecurring, keyOf, mintLength, amountsOf, withAmounts, window, changedAmounts, changed}
-use Rattle.action.proofs.Lengths.{listed-passes}
+use Rattle.action.specs.Fields.{isToken, isRecurring, keyOf, mintLength, amountsOf, window}
+use Rattle.action.proofs.Regular.{Regular, mint-there, amounts-there}
+use Rattle.change.specs.declared.Change.{Change}
+use Rattle.change.specs.declared.Change.the-variants.{Nothing, Remaining, Spent}
+use Rattle.change.specs.Changed.{withAmounts, changedAmounts, changed}
 
 length-changed-amounts : (change : Change) (amounts : List ℕ) → length (changedAmounts change amounts) ≡ length amounts
 length-changed-amounts Nothing amounts = refl
@@ -65,39 +65,7 @@ module _ (change : Change) (a : Action) where
         let long : mintLength (a .kind) ≡ 32 = rw t in
         subst (λ (n : ℕ). take n ((changed change a) .payload) ≡ take n (a .payload)) long changed-mint
 
--- ---- actions as regions have them
-
--- the least data of a type: a mint where it has one, then one number or the four of a window
-abbrev pub least : ℕ → ℕ
-least code = mintLength code + cond (isRecurring code) 32 8
-
--- a known code's data is no shorter than its least
-least-listed : (code : ℕ) → 0 < dataLength code → least code ≤ dataLength code
-unfolding isToken isRecurring
-least-listed code some = leb-true _ _ (listed-passes (λ (c size : ℕ). leb (least c) size) refl code some)
-
--- an action as a region has it: a known type, an expiry that fits, the listed length, bytes
-pub record Regular (a : Action) : Type 0 where
-  pub known : 0 < dataLength (a .kind)
-  pub soon : a .expires < 256 ^ 8
-  pub sized : length (a .payload) ≡ dataLength (a .kind)
-  pub bytes : Bytes (a .payload)
-
 module _ {a : Action} (r : Regular a) where
-  enough : least (a .kind) ≤ length (a .payload)
-  enough = rw (r .sized) (least-listed (a .kind) (r .known))
-
-  pub mint-there : mintLength (a .kind) ≤ length (a .payload)
-  mint-there = omega (arith, enough)
-
-  pub amounts-there : cond (isRecurring (a .kind)) 32 8 ≤ length (amountsOf a)
-  unfolding amountsOf
-  amounts-there = rw (length-drop (mintLength (a .kind)) (a .payload)) (omega (arith, enough))
-
-  pub amounts-are-bytes : Bytes (amountsOf a)
-  unfolding amountsOf
-  amounts-are-bytes = bytes-drop (mintLength (a .kind)) (a .payload) (r .bytes)
-
   pub changed-regular : (change : Change) → Regular (changed change a)
   changed-regular change =
       record {
@@ -109,10 +77,10 @@ module _ {a : Action} (r : Regular a) where
 
   -- no change writes a window's length
   pub window-kept : isRecurring (a .kind) ≡ true → (change : Change) → window (amountsOf (changed change a)) ≡ window (amountsOf a)
-  window-kept e change = ap window (changed-amounts change a mint-there) ∙ go change
+  window-kept e change = ap window (changed-amounts change a (mint-there r)) ∙ go change
     where
       room : 32 ≤ length (amountsOf a)
-      room = rw e at amounts-there
+      room = rw e at (amounts-there r)
 
       go : (c : Change) → window (changedAmounts c (amountsOf a)) ≡ window (amountsOf a)
       go Nothing = refl

@@ -1,8 +1,8 @@
--- `action::fields::write_change` meets its contract, change by change.
+-- `change::write_change` meets its contract, change by change.
 -- Assumes nothing.
 use borrow.Author.Needs.{needs}
-use Rattle.action.proofs.fields.write_change.Statement.{statement}
-use Rattle.action.proofs.fields.write_change.Tie as tie
+use Rattle.change.proofs.write_change.Statement.{statement}
+use Rattle.change.proofs.write_change.Tie as tie
 
 enum-told : tie.Need-enum-told
 enum-told c = search needs

@@ -1,8 +1,8 @@
--- `action::fields::write_spent` meets its contract: one write after the other.
+-- `change::write_spent` meets its contract: one write after the other.
 -- Assumes nothing.
 use borrow.Author.Needs.{needs}
-use Rattle.action.proofs.fields.write_spent.Statement.{statement}
-use Rattle.action.proofs.fields.write_spent.Tie as tie
+use Rattle.change.proofs.write_spent.Statement.{statement}
+use Rattle.change.proofs.write_spent.Tie as tie
 
 write-u64-requires : tie.Need-write-u64-requires
 write-u64-requires c κs = search needs

@@ -1,12 +1,12 @@
--- `action::fields::apply_change` meets its contract: the amounts are lent where they lie, and nothing where the view passes the end.
+-- `change::apply_change` meets its contract: the amounts are lent where they lie, and nothing where the view passes the end.
 -- Assumes nothing.
 use Prim.Native.Nat.{_<_}
 use native.Mathlib.Omega.{arith}
 use Rattle.action.specs.Fields.{mintLength}
-use Rattle.action.proofs.Views.{written-past, written-short, written-part}
+use Rattle.change.proofs.Writing.{written-past, written-short, written-part}
 use borrow.Author.Needs.{needs}
-use Rattle.action.proofs.fields.apply_change.Statement.{statement}
-use Rattle.action.proofs.fields.apply_change.Tie as tie
+use Rattle.change.proofs.apply_change.Statement.{statement}
+use Rattle.change.proofs.apply_change.Tie as tie
 
 returns : tie.Need-returns
 returns c =

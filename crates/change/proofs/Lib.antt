@@ -1,0 +1,2 @@
+pub mod Changing
+pub mod Writing
