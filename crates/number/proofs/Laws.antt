@@ -9,7 +9,7 @@ use native.Mathlib.Nat.{pow-suc}
 use native.Mathlib.Omega.{arith}
 use borrow.Author.Tests.{le-leb, lt-leb, leb-true}
 use lib.Dec.{leb}
-use lib.ListN.{length, getD, take, drop, length-append, length-drop, length-take, take-append-drop}
+use lib.ListN.{set, length, getD, take, drop, length-append, length-drop, length-take, take-append-drop}
 use lib.Seq.{getD-drop, take-add, take-at, take-append-le, drop-at, drop-append-le, drop-drop, drop-cons, length-take-le, sets, sets-eq}
 use Rattle.number.specs.Number.{number, bytesOf, numberAt, withNumberAt, Bytes}
 
@@ -49,6 +49,19 @@ unfolding withNumberAt
 written width s at n h =
     let fits : at + length (bytesOf width n) ≤ length s = simp length-bytesOf (omega arith) in
     rw (le-leb _ _ h, sets-eq (bytesOf width n) s at, length-bytesOf)
+
+-- one store after the other
+module _ (s : List ℕ) (at i n : ℕ) where
+  pub store-next : i < 8 → sets (set s (at + i) (n % 256)) (at + (i + 1)) (bytesOf (8 - (i + 1)) (n / 256)) ≡ sets s (at + i) (bytesOf (8 - i) n)
+  unfolding bytesOf
+  store-next h =
+      let left : 8 - i ≡ suc (8 - (i + 1)) = omega arith in
+      let next : at + (i + 1) ≡ suc (at + i) = omega arith in
+      rw (left, next)
+
+  pub store-end : 8 ≤ i → sets s (at + i) (bytesOf (8 - i) n) ≡ s
+  unfolding bytesOf
+  store-end h = let none : 8 - i ≡ 0 = omega arith in rw none
 
 pub not-written : (width : ℕ) (s : List ℕ) (at n : ℕ) → length s < at + width → withNumberAt width s at n ≡ s
 unfolding withNumberAt

@@ -80,21 +80,12 @@ pub fn write_u64(bytes: &mut [u8], at: usize, value: u64) -> bool
         return false;
     }
     let mut rest = value;
-    bytes[at] = (rest % 256) as u8;
-    rest = rest / 256;
-    bytes[at + 1] = (rest % 256) as u8;
-    rest = rest / 256;
-    bytes[at + 2] = (rest % 256) as u8;
-    rest = rest / 256;
-    bytes[at + 3] = (rest % 256) as u8;
-    rest = rest / 256;
-    bytes[at + 4] = (rest % 256) as u8;
-    rest = rest / 256;
-    bytes[at + 5] = (rest % 256) as u8;
-    rest = rest / 256;
-    bytes[at + 6] = (rest % 256) as u8;
-    rest = rest / 256;
-    bytes[at + 7] = (rest % 256) as u8;
+    let mut i = 0;
+    while i < 8 {
+        bytes[at + i] = (rest % 256) as u8;
+        rest = rest / 256;
+        i += 1;
+    }
     true
 }
 

@@ -1,140 +1,88 @@
--- `number::write_u64` meets its contract: past the two tests the eight stores are the run of stores that writes the number.
+-- `number::write_u64` meets its contract. The loop's invariant: storing the bytes that are left gives what storing all eight gives.
 -- Assumes nothing.
-use Prim.Native.Nat.{_+_, _<_, _≤_}
-use mathlib.Core.Path.{sym}
-use native.Mathlib.Numerals.{towards-suc}
+use Prim.Native.Nat.{_+_, _-_, _<_, _≤_}
+use mathlib.Core.Path.{_≡_, refl, sym, _∙_}
 use native.Mathlib.Omega.{arith}
 use borrow.Author.Needs.{needs}
 use borrow.Author.Tests.{le-leb, lt-leb}
 use lib.ListN.{length, length-set}
+use lib.Seq.{sets}
 use Rattle.number.specs.Number.{bytesOf}
-use Rattle.number.proofs.Laws.{written, not-written}
+use Rattle.number.proofs.Laws.{written, not-written, store-next, store-end}
 use Rattle.number.proofs.write_u64.Statement.{statement}
 use Rattle.number.proofs.write_u64.Tie as tie
 
-returns : tie.Need-returns
+abbrev Inv-loop : tie.InvT-loop
+Inv-loop bytes₀ at value rest₀ i₀ bytes rest i =
+    (i ≤ 8) × (at + 8 ≤ length bytes₀) × (length bytes ≡ length bytes₀) × (sets bytes (at + i) (bytesOf (8 - i) rest) ≡ sets bytes₀ at (bytesOf 8 value))
+
+abbrev μ-loop : tie.MeasureT-loop
+μ-loop bytes₀ at value rest₀ i₀ bytes rest i = 8 - i
+
+returns : tie.Need-returns Inv-loop μ-loop
 returns c =
     let start = c .before .args in
     let short : length (start .bytes .now) < start .at + 8 = omega arith in
     (sym (lt-leb _ _ short), sym (not-written 8 _ _ _ short))
 
-sub-if2 : tie.Need-sub-if2
+sub-if2 : tie.Need-sub-if2 Inv-loop μ-loop
 sub-if2 c = search needs
 
-returns-2 : tie.Need-returns-2
+returns-2 : tie.Need-returns-2 Inv-loop μ-loop
 returns-2 c =
     let start = c .before .before .args in
     let short : length (start .bytes .now) < start .at + 8 = omega arith in
     (sym (lt-leb _ _ short), sym (not-written 8 _ _ _ short))
 
-cast-bytes : tie.Need-cast-bytes
+loop-holds : tie.Need-loop-holds Inv-loop μ-loop
+loop-holds c =
+    let start = c .before .before .args in
+    let front : start .at + 0 ≡ start .at = omega arith in
+    (omega arith, omega arith, refl, rw front)
+
+cast-bytes : tie.Need-cast-bytes Inv-loop μ-loop
 cast-bytes c = search needs
 
-slice-write-bytes : tie.Need-slice-write-bytes
-slice-write-bytes c = search needs
+add-bytes : tie.Need-add-bytes Inv-loop μ-loop
+add-bytes c = omega arith
 
-cast-bytes-2 : tie.Need-cast-bytes-2
-cast-bytes-2 c = search needs
+slice-write-bytes : tie.Need-slice-write-bytes Inv-loop μ-loop
+slice-write-bytes c = omega arith
 
-add-bytes : tie.Need-add-bytes
-add-bytes c = search needs
+add-i : tie.Need-add-i Inv-loop μ-loop
+add-i c = omega arith
 
-slice-write-bytes-2 : tie.Need-slice-write-bytes-2
-slice-write-bytes-2 c = simp length-set (omega arith)
+loop-less : tie.Need-loop-less Inv-loop μ-loop
+loop-less c = omega arith
 
-cast-bytes-3 : tie.Need-cast-bytes-3
-cast-bytes-3 c = search needs
+loop-again : tie.Need-loop-again Inv-loop μ-loop
+loop-again c =
+    let inv = c .before .loop .inv in
+    (omega arith, inv .1, simp length-set (inv .2), store-next _ _ _ _ (omega arith) ∙ inv .3)
 
-add-bytes-2 : tie.Need-add-bytes-2
-add-bytes-2 c = search needs
+same-length : tie.Need-same-length Inv-loop μ-loop
+same-length c = c .before .loop .inv .2
 
-slice-write-bytes-3 : tie.Need-slice-write-bytes-3
-slice-write-bytes-3 c = simp length-set (omega arith)
-
-cast-bytes-4 : tie.Need-cast-bytes-4
-cast-bytes-4 c = search needs
-
-add-bytes-3 : tie.Need-add-bytes-3
-add-bytes-3 c = search needs
-
-slice-write-bytes-4 : tie.Need-slice-write-bytes-4
-slice-write-bytes-4 c = simp length-set (omega arith)
-
-cast-bytes-5 : tie.Need-cast-bytes-5
-cast-bytes-5 c = search needs
-
-add-bytes-4 : tie.Need-add-bytes-4
-add-bytes-4 c = search needs
-
-slice-write-bytes-5 : tie.Need-slice-write-bytes-5
-slice-write-bytes-5 c = simp length-set (omega arith)
-
-cast-bytes-6 : tie.Need-cast-bytes-6
-cast-bytes-6 c = search needs
-
-add-bytes-5 : tie.Need-add-bytes-5
-add-bytes-5 c = search needs
-
-slice-write-bytes-6 : tie.Need-slice-write-bytes-6
-slice-write-bytes-6 c = simp length-set (omega arith)
-
-cast-bytes-7 : tie.Need-cast-bytes-7
-cast-bytes-7 c = search needs
-
-add-bytes-6 : tie.Need-add-bytes-6
-add-bytes-6 c = search needs
-
-slice-write-bytes-7 : tie.Need-slice-write-bytes-7
-slice-write-bytes-7 c = simp length-set (omega arith)
-
-cast-bytes-8 : tie.Need-cast-bytes-8
-cast-bytes-8 c = search needs
-
-add-bytes-7 : tie.Need-add-bytes-7
-add-bytes-7 c = search needs
-
-slice-write-bytes-8 : tie.Need-slice-write-bytes-8
-slice-write-bytes-8 c = simp length-set (omega arith)
-
-same-length : tie.Need-same-length
-same-length c = simp length-set
-
-returns-3 : tie.Need-returns-3
-unfolding bytesOf
+returns-3 : tie.Need-returns-3 Inv-loop μ-loop
 returns-3 c =
-    let start = c .before .before .args in
-    let fits : start .at + 8 ≤ length (start .bytes .now) = omega arith in
-    (sym (le-leb _ _ fits), simp towards-suc (sym (written 8 _ _ _ fits)))
+    let inv = c .before .loop .inv in
+    (sym (le-leb _ _ (inv .1)), sym (store-end _ _ _ _ (omega arith)) ∙ inv .3 ∙ sym (written 8 _ _ _ (inv .1)))
 
 pub write-u64-spec : {M : Type 1} → statement M
 write-u64-spec =
     tie.close
     (tie.spec
+    Inv-loop
+    μ-loop
     returns
     sub-if2
     returns-2
+    loop-holds
     cast-bytes
-    slice-write-bytes
-    cast-bytes-2
     add-bytes
-    slice-write-bytes-2
-    cast-bytes-3
-    add-bytes-2
-    slice-write-bytes-3
-    cast-bytes-4
-    add-bytes-3
-    slice-write-bytes-4
-    cast-bytes-5
-    add-bytes-4
-    slice-write-bytes-5
-    cast-bytes-6
-    add-bytes-5
-    slice-write-bytes-6
-    cast-bytes-7
-    add-bytes-6
-    slice-write-bytes-7
-    cast-bytes-8
-    add-bytes-7
-    slice-write-bytes-8
+    slice-write-bytes
+    add-i
+    loop-less
+    loop-again
     same-length
     returns-3)
