@@ -23,8 +23,9 @@ use Rattle.action.specs.Views.{actionAt, dataAt, writtenAt, zeroView as action-
 use Rattle.action.specs.declared.ActionView.{ActionView}
 use Rattle.change.specs.Changed.{changed}
 use Rattle.change.specs.declared.Change.{Change}
+use Rattle.row.specs.Row.{actionsIn, kindsIn, viewsOf as row-viewsOf}
 use Rattle.region.specs.Region.{cut, mostActions}
-use Rattle.region.specs.Views.{actionsIn, headerAnswer, headerAt, kindsIn, parsedOf, viewsOf as region-viewsOf}
+use Rattle.region.specs.Views.{headerAnswer, headerAt, parsedOf}
 use Rattle.region.specs.declared.HeaderRead.{HeaderRead}
 use Rattle.region.specs.declared.Parsed.{Parsed as region-Parsed}
 use Rattle.creation.specs.Creation.{creation, howOften}
@@ -246,6 +247,23 @@ pub change-apply-change : (region : List ℕ) (view : ActionView) (change : Chan
     → OneOutcome (λ (o : List ℕ). o ≡ writtenAt region view (changed change (actionAt region view)))
 change-apply-change _ _ _ _ _ p q = one-outcome p q
 
+-- ---- row
+
+-- row::actions_in
+pub row-actions-in : (list : List ℕ) (count : ℕ)
+    → OneOutcome (λ (r : List ℕ). r ≡ take (4 * count) list)
+row-actions-in _ _ _ _ p q = one-outcome p q
+
+-- row::how_many
+pub row-how-many : (actions : List ℕ)
+    → OneOutcome (λ (r : ℕ). r ≡ length (row-viewsOf actions))
+row-how-many _ _ _ p q = one-outcome p q
+
+-- row::action_in
+pub row-action-in : (actions : List ℕ) (i : ℕ)
+    → OneOutcome (λ (r : ActionView). r ≡ getD (row-viewsOf actions) i action-zeroView)
+row-action-in _ _ _ _ p q = one-outcome p q
+
 -- ---- region
 
 -- region::parse::read_header
@@ -267,21 +285,6 @@ region-parse-Parsed-refused _ _ _ p q = one-outcome p q
 pub region-parse-parse-actions : (region : List ℕ)
     → OneOutcome (λ (r : region-Parsed). r ≡ parsedOf (cut mostActions region))
 region-parse-parse-actions _ _ _ p q = one-outcome p q
-
--- region::row::actions_in
-pub region-row-actions-in : (list : List ℕ) (count : ℕ)
-    → OneOutcome (λ (r : List ℕ). r ≡ take (4 * count) list)
-region-row-actions-in _ _ _ _ p q = one-outcome p q
-
--- region::row::how_many
-pub region-row-how-many : (actions : List ℕ)
-    → OneOutcome (λ (r : ℕ). r ≡ length (region-viewsOf actions))
-region-row-how-many _ _ _ p q = one-outcome p q
-
--- region::row::action_in
-pub region-row-action-in : (actions : List ℕ) (i : ℕ)
-    → OneOutcome (λ (r : ActionView). r ≡ getD (region-viewsOf actions) i action-zeroView)
-region-row-action-in _ _ _ _ p q = one-outcome p q
 
 -- ---- creation
 

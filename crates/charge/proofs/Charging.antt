@@ -17,8 +17,8 @@ use Rattle.action.specs.Action.{Action}
 use Rattle.action.specs.Views.{zeroView, actionAt, writtenAt}
 use Rattle.change.specs.declared.Change.{Change}
 use Rattle.change.specs.Changed.{changed}
-use Rattle.region.specs.Views.{viewsOf, actionsIn}
-use Rattle.region.proofs.Views.{actions-step, length-actions}
+use Rattle.row.specs.Row.{viewsOf, actionsIn}
+use Rattle.row.proofs.Views.{actions-step, length-actions}
 use Rattle.limit.specs.Limit.{Charge, ruleAnswer, changeOf, settled}
 use Rattle.charge.specs.Classes.{ofClass, classAnswer}
 use Rattle.charge.specs.Views.{charges, chargesAt, settledViews, settledAt}

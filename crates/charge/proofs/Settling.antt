@@ -8,8 +8,9 @@ use lib.ListN.{length, length-append}
 use Rattle.action.specs.Action.{Action}
 use Rattle.action.specs.Views.{actionAt, writtenAt}
 use Rattle.change.proofs.Changing.{changed-kind, changed-expires, changed-length}
+use Rattle.row.specs.Row.{viewsOf}
 use Rattle.region.specs.Region.{glueOne, glue}
-use Rattle.region.specs.Views.{viewAt, placed, viewsOf}
+use Rattle.region.specs.Views.{viewAt, placed}
 use Rattle.region.proofs.Gluing.{glue-append, length-glueOne, glued-action, glued-written}
 use Rattle.limit.specs.Limit.{Charge, changeOf, settled}
 use Rattle.charge.specs.Views.{charges, settledViews, settledAt}

@@ -5,7 +5,7 @@ use mathlib.Core.List.{List, [], _∷_}
 use Rattle.action.specs.declared.ActionView.{ActionView}
 use Rattle.action.specs.Action.{Action}
 use Rattle.action.specs.Views.{actionAt, writtenAt}
-use Rattle.region.specs.Views.{viewsOf, actionsIn}
+use Rattle.row.specs.Row.{viewsOf, actionsIn}
 use Rattle.limit.specs.Limit.{Charge, settled}
 
 -- actions with an amount each, as far as both go

@@ -10,9 +10,10 @@ use Rattle.answer.specs.Numbers.{answer, accepted, accepts, refuseIf, actionBuf
 use Rattle.answer.specs.Refusable.{Refusable, given, refused}
 use Rattle.answer.proofs.Laws.{rule-holds, rule-broken, no-rule}
 use Rattle.action.specs.Action.{Action}
+use Rattle.row.specs.Row.{actionsIn}
 use Rattle.region.specs.declared.Parsed.{Parsed}
 use Rattle.region.specs.Region.{cut, mostActions}
-use Rattle.region.specs.Views.{parsedOf, actionsIn}
+use Rattle.region.specs.Views.{parsedOf}
 use Rattle.region.proofs.Cuts.{cut-refuses, rowIn, actions-of-parsed}
 use Rattle.creation.specs.declared.Rule.{Rule}
 use Rattle.creation.specs.declared.Rule.the-variants.{Length, Fresh, Windowed}

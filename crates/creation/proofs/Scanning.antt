@@ -14,8 +14,8 @@ use Rattle.action.specs.declared.ActionView.{ActionView}
 use Rattle.action.specs.Action.{Action}
 use Rattle.action.specs.Fields.{isToken, keyOf}
 use Rattle.action.specs.Views.{zeroView, actionAt}
-use Rattle.region.specs.Views.{viewsOf, actionsIn, kindsIn}
-use Rattle.region.proofs.Views.{actions-step, length-actions}
+use Rattle.row.specs.Row.{viewsOf, actionsIn, kindsIn}
+use Rattle.row.proofs.Views.{actions-step, length-actions}
 use Rattle.creation.specs.declared.Rule.{Rule}
 use Rattle.creation.specs.Creation.{keeps, allKeep, howOften, kindsOf, mintAgain, mintRepeats}
 

@@ -18,9 +18,10 @@ use Rattle.number.specs.Number.{Bytes}
 use Rattle.keys.specs.declared.Keys.{Keys}
 use Rattle.keys.specs.Keys.{isAmong, keysIn}
 use Rattle.action.specs.Action.{Action}
+use Rattle.row.specs.Row.{viewsOf, actionsIn}
 use Rattle.region.specs.declared.Parsed.{Parsed}
 use Rattle.region.specs.Region.{cut, glue, mostActions}
-use Rattle.region.specs.Views.{placed as placedAt, viewsOf, actionsIn, parsedOf}
+use Rattle.region.specs.Views.{placed as placedAt, parsedOf}
 use Rattle.region.proofs.Cuts.{cut-cuts, cut-at-most, rowIn, views-of-parsed, actions-of-parsed}
 use Rattle.creation.specs.Creation.{inStoredForm, storedActions}
 use Rattle.creation.specs.Views.{storedAnswer}

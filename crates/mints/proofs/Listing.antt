@@ -16,8 +16,8 @@ use Rattle.action.specs.declared.ActionView.{ActionView}
 use Rattle.action.specs.Action.{Action}
 use Rattle.action.specs.Fields.{isToken, keyOf}
 use Rattle.action.specs.Views.{zeroView, actionAt}
-use Rattle.region.specs.Views.{viewsOf, actionsIn}
-use Rattle.region.proofs.Views.{actions-step, length-actions}
+use Rattle.row.specs.Row.{viewsOf, actionsIn}
+use Rattle.row.proofs.Views.{actions-step, length-actions}
 use Rattle.mints.specs.Mints.{withMint, withMints, listedMints}
 
 pub mint-kept : (mints : Keys) (a : Action) → isToken (a .kind) ≡ false → withMint mints a ≡ mints

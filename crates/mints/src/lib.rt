@@ -6,8 +6,8 @@ use key::KEY_LENGTH;
 use key::Key;
 use keys::Keys;
 use keys::MAX_KEYS;
-use region::row::action_in;
-use region::row::how_many;
+use row::action_in;
+use row::how_many;
 ghost use mathlib.Core.Path.{_≡_};
 ghost use mathlib.Core.Bool.{not, _&&_};
 ghost use lib.Dec.{eqb, ltb};
@@ -15,7 +15,7 @@ ghost use lib.ListN.{length};
 ghost use Rattle.key.specs.Key.{sameKey, keyLength};
 ghost use Rattle.keys.specs.Keys.{mostKeys};
 ghost use Rattle.action.specs.Fields.{isToken};
-ghost use Rattle.region.specs.Views.{actionsIn};
+ghost use Rattle.row.specs.Row.{actionsIn};
 ghost use Rattle.mints.specs.Mints.{listedMints};
 
 // Whether an action's mint is put into a list of `count` keys, where a search for it ended at `k`.

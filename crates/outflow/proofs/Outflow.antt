@@ -22,7 +22,7 @@ use Rattle.keys.proofs.Searching.{Searched}
 use Rattle.action.specs.declared.ActionView.{ActionView}
 use Rattle.action.specs.Fields.{isToken, keyOf}
 use Rattle.action.specs.Views.{zeroView, actionAt}
-use Rattle.region.specs.Views.{viewsOf, actionsIn}
+use Rattle.row.specs.Row.{viewsOf, actionsIn}
 use Rattle.account.specs.Record.{Record}
 use Rattle.balance.specs.declared.Sums.{Sums}
 use Rattle.balance.specs.Balance.{balance}

@@ -16,8 +16,8 @@ use Rattle.action.specs.declared.ActionView.{ActionView}
 use Rattle.action.specs.Action.{Action, expired}
 use Rattle.action.specs.Fields.{keyOf}
 use Rattle.action.specs.Views.{zeroView, actionAt}
-use Rattle.region.specs.Views.{viewsOf, actionsIn, kindsIn}
-use Rattle.region.proofs.Views.{actions-step, length-actions}
+use Rattle.row.specs.Row.{viewsOf, actionsIn, kindsIn}
+use Rattle.row.proofs.Views.{actions-step, length-actions}
 use Rattle.creation.specs.Creation.{howOften, kindsOf}
 use Rattle.creation.proofs.Scanning.{kinds-of-actions}
 use Rattle.account.specs.Record.{Record}

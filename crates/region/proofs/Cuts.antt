@@ -13,11 +13,12 @@ use Rattle.action.specs.Action.{Action}
 use Rattle.action.specs.Views.{zeroView, dataAt, actionAt}
 use Rattle.action.proofs.Views.{data-there}
 use Rattle.action.proofs.Lengths.{known-code}
+use Rattle.row.specs.Row.{viewsOf, rowOf, actionsIn}
+use Rattle.row.proofs.InRow.{row-front}
 use Rattle.region.specs.declared.Parsed.{Parsed}
 use Rattle.region.specs.Region.{First, first, cut, mostActions}
-use Rattle.region.specs.Views.{viewAt, placed, viewsOf, rowOf, parsedOf, actionsIn}
+use Rattle.region.specs.Views.{viewAt, placed, parsedOf}
 use Rattle.region.proofs.Cutting.{IsFirst, first-is, first-refuses, cut-end, cut-full, cut-refused, cut-first}
-use Rattle.region.proofs.InRow.{row-front}
 use Rattle.region.proofs.Parsing.{length-placed}
 
 -- `Cuts n s l`: the bytes s cut into the actions l, at most n of them

@@ -1,6 +1,4 @@
 pub mod Cuts
 pub mod Cutting
 pub mod Gluing
-pub mod InRow
 pub mod Parsing
-pub mod Views

@@ -13,10 +13,11 @@ use Rattle.answer.proofs.Refusing.{none-in-front, more-in-front}
 use Rattle.action.specs.declared.ActionView.{ActionView}
 use Rattle.action.specs.Action.{Action}
 use Rattle.action.specs.Views.{zeroView}
+use Rattle.row.specs.Row.{rowOf}
+use Rattle.row.proofs.InRow.{row-set}
 use Rattle.region.specs.declared.HeaderRead.the-variants.{View, Refused}
 use Rattle.region.specs.Region.{First, first, cut, mostActions}
-use Rattle.region.specs.Views.{viewAt, headerAt, placed, rowOf, parsedOf}
-use Rattle.region.proofs.InRow.{row-set}
+use Rattle.region.specs.Views.{viewAt, headerAt, placed, parsedOf}
 use Rattle.region.proofs.Cutting.{IsFirst, first-is, cut-end, cut-full, cut-refused, cut-first, view-first, refused-first}
 
 -- the place after some actions that are laid from a place

@@ -1,14 +1,15 @@
 -- Where the actions of a region lie: the values that the code answers with, each from the actions that were cut.
 -- Assumes nothing.
-use Prim.Native.Nat.{ℕ, _+_, _-_, _%_}
-use mathlib.Core.List.{List, [], _∷_, _++_, map}
+use Prim.Native.Nat.{ℕ, _+_, _-_}
+use mathlib.Core.List.{List, [], _∷_, _++_}
 use lib.ListN.{length, drop, replicate}
 use Rattle.answer.specs.Numbers.{answer, accepted}
 use Rattle.answer.specs.declared.Answer.{Answer}
 use Rattle.answer.specs.Refusable.{Refusable, given, refused}
 use Rattle.action.specs.declared.ActionView.{ActionView}
 use Rattle.action.specs.Action.{Action}
-use Rattle.action.specs.Views.{zeroView, actionAt}
+use Rattle.action.specs.Views.{zeroView}
+use Rattle.row.specs.Row.{rowOf}
 use Rattle.region.specs.declared.HeaderRead.{HeaderRead}
 use Rattle.region.specs.declared.HeaderRead.the-variants.{View, Refused}
 use Rattle.region.specs.declared.Parsed.{Parsed}
@@ -34,31 +35,8 @@ abbrev pub headerAnswer : HeaderRead → Answer
 headerAnswer (View v) = answer accepted
 headerAnswer (Refused r) = r
 
--- the views that a row of numbers holds, four numbers for each: a type's code, an expiry, where the data starts and how long it is
-unfoldable pub viewsOf : List ℕ → List ActionView
-viewsOf [] = []
-viewsOf (k ∷ []) = []
-viewsOf (k ∷ e ∷ []) = []
-viewsOf (k ∷ e ∷ a ∷ []) = []
-viewsOf (k ∷ e ∷ a ∷ n ∷ l) = record { kind = k % 256; expires = e; at = a; len = n } ∷ viewsOf l
-
--- and the row that holds some views
-unfoldable pub rowOf : List ActionView → List ℕ
-rowOf [] = []
-rowOf (v ∷ l) = v .kind ∷ v .expires ∷ v .at ∷ v .len ∷ rowOf l
-
 -- a region's actions: the views of those that were cut as a row, and none where it was refused
 unfoldable pub parsedOf : Refusable (List Action) → Parsed
 unfolding placed rowOf
 parsedOf (given l) = record { answer = answer accepted; list = rowOf (placed 0 l ++ replicate (mostActions - length l) zeroView); count = length l }
 parsedOf (refused r) = record { answer = r; list = rowOf (replicate mostActions zeroView); count = 0 }
-
--- the types' codes of the actions of a row
-unfoldable pub kindsIn : List ℕ → List ℕ
-unfolding viewsOf
-kindsIn row = map (λ (v : ActionView). v .kind) (viewsOf row)
-
--- the actions that the views of a row name
-unfoldable pub actionsIn : List ℕ → List ℕ → List Action
-unfolding actionAt viewsOf
-actionsIn s row = map (actionAt s) (viewsOf row)

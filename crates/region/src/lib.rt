@@ -1,7 +1,5 @@
-// The action region, a row of actions: reading headers, cutting, and rows of views. Any bytes get an
-// answer.
+// The action region: reading headers, and cutting it into a row of its actions. Any bytes get an answer.
 pub mod parse;
-pub mod row;
 
 use action::ActionView;
 use answer::Answer;

@@ -7,7 +7,7 @@ use native.Mathlib.Omega.{arith}
 use lib.ListN.{length, drop}
 use borrow.Author.Tests.{not-true, not-false}
 use Rattle.action.specs.Views.{actionAt}
-use Rattle.region.specs.Views.{viewsOf}
+use Rattle.row.specs.Row.{viewsOf}
 use Rattle.charge.specs.Classes.{classAnswer}
 use Rattle.charge.specs.Views.{chargesAt}
 use Rattle.charge.proofs.Charging.{class-refused, class-passed, class-end}

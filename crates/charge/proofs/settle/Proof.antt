@@ -5,7 +5,7 @@ use mathlib.Core.Path.{_≡_, refl, sym, _∙_}
 use native.Mathlib.Numerals.{add-one}
 use native.Mathlib.Omega.{arith}
 use lib.ListN.{length, drop}
-use Rattle.region.specs.Views.{viewsOf}
+use Rattle.row.specs.Row.{viewsOf}
 use Rattle.charge.specs.Views.{settledViews}
 use Rattle.charge.proofs.Charging.{settle-step, settle-end, settle-all}
 use Rattle.charge.proofs.settle.Statement.{statement}

@@ -6,7 +6,7 @@ use native.Mathlib.Numerals.{add-one}
 use native.Mathlib.Omega.{arith}
 use lib.ListN.{length, drop}
 use borrow.Author.Tests.{not-true, not-false}
-use Rattle.region.specs.Views.{viewsOf, actionsIn}
+use Rattle.row.specs.Row.{viewsOf, actionsIn}
 use Rattle.creation.specs.Creation.{allKeep}
 use Rattle.creation.proofs.Scanning.{keep-passed, keep-broken, keep-end}
 use Rattle.creation.proofs.all_keep.Statement.{statement}

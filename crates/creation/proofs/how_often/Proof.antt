@@ -6,7 +6,7 @@ use mathlib.Core.Logic.{⊎-elim}
 use native.Mathlib.Numerals.{add-one}
 use native.Mathlib.Omega.{arith}
 use lib.ListN.{length, drop}
-use Rattle.region.specs.Views.{viewsOf, kindsIn}
+use Rattle.row.specs.Row.{viewsOf, kindsIn}
 use Rattle.creation.specs.Creation.{howOften}
 use Rattle.creation.proofs.Scanning.{often-once, often-not, often-end}
 use Rattle.creation.proofs.how_often.Statement.{statement}

@@ -6,7 +6,7 @@ use native.Mathlib.Numerals.{add-one}
 use native.Mathlib.Omega.{arith}
 use lib.ListN.{length, drop}
 use Rattle.action.specs.Views.{actionAt}
-use Rattle.region.specs.Views.{viewsOf, actionsIn}
+use Rattle.row.specs.Row.{viewsOf, actionsIn}
 use Rattle.creation.specs.Creation.{mintAgain}
 use Rattle.creation.proofs.Scanning.{again-found, again-passed, again-end}
 use Rattle.creation.proofs.mint_again.Statement.{statement}

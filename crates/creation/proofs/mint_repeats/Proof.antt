@@ -5,7 +5,7 @@ use mathlib.Core.Path.{_≡_, refl, sym, _∙_}
 use native.Mathlib.Numerals.{add-one}
 use native.Mathlib.Omega.{arith}
 use lib.ListN.{length, drop}
-use Rattle.region.specs.Views.{viewsOf, actionsIn}
+use Rattle.row.specs.Row.{viewsOf, actionsIn}
 use Rattle.creation.specs.Creation.{mintRepeats}
 use Rattle.creation.proofs.Scanning.{repeats-found, repeats-passed, repeats-end}
 use Rattle.creation.proofs.mint_repeats.Statement.{statement}

@@ -11,8 +11,8 @@ use Rattle.answer.specs.Numbers.{accepts}
 use Rattle.answer.proofs.Laws.{accepted-is}
 use Rattle.keys.specs.declared.Keys.{Keys}
 use Rattle.action.specs.Action.{Action}
-use Rattle.region.specs.Views.{actionsIn}
-use Rattle.region.proofs.Views.{length-actions}
+use Rattle.row.specs.Row.{actionsIn}
+use Rattle.row.proofs.Views.{length-actions}
 use Rattle.mints.specs.Mints.{listedMints}
 use Rattle.account.specs.Views.{recordsIn}
 use Rattle.judge.specs.Views.{checksFrom}

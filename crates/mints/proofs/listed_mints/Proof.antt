@@ -16,7 +16,7 @@ use Rattle.keys.specs.declared.Keys.{Keys}
 use Rattle.keys.specs.Keys.{isAmong, keysIn}
 use Rattle.keys.proofs.Searching.{Searched, search-starts, search-room, search-next, search-ended}
 use Rattle.action.specs.Views.{actionAt}
-use Rattle.region.specs.Views.{viewsOf, actionsIn}
+use Rattle.row.specs.Row.{viewsOf, actionsIn}
 use Rattle.mints.specs.Mints.{withMint, withMints, listedMints}
 use Rattle.mints.proofs.Listing.{Filled, none-filled, filled-next, mint-new, mint-room, mint-same, mints-step, mints-end, mints-none}
 use Rattle.mints.proofs.listed_mints.Statement.{statement}

@@ -8,8 +8,8 @@ use native.Mathlib.Numerals.{add-one}
 use native.Mathlib.Omega.{arith}
 use lib.ListN.{length, getD, length-map}
 use Rattle.keys.proofs.Searching.{Searched, search-starts, search-room, search-next}
-use Rattle.region.specs.Views.{viewsOf, actionsIn}
-use Rattle.region.proofs.Views.{length-actions}
+use Rattle.row.specs.Row.{viewsOf, actionsIn}
+use Rattle.row.proofs.Views.{length-actions}
 use Rattle.account.specs.Views.{recordsIn}
 use Rattle.balance.specs.declared.Sums.{Sums}
 use Rattle.outflow.specs.Outflow.{amountFrom, decreaseOf}

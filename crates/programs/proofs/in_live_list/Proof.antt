@@ -5,7 +5,7 @@ use mathlib.Core.Path.{_≡_, refl, sym, _∙_}
 use native.Mathlib.Numerals.{add-one}
 use native.Mathlib.Omega.{arith}
 use lib.ListN.{length, drop}
-use Rattle.region.specs.Views.{viewsOf, actionsIn}
+use Rattle.row.specs.Row.{viewsOf, actionsIn}
 use Rattle.programs.specs.Programs.{inLiveList}
 use Rattle.programs.proofs.Lists.{list-found, list-passed, list-end}
 use Rattle.programs.proofs.in_live_list.Statement.{statement}

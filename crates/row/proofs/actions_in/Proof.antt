@@ -1,12 +1,12 @@
--- `region::row::actions_in` meets its contract: a row that is shorter is all of the front that is asked for.
+-- `row::actions_in` meets its contract: a row that is shorter is all of the front that is asked for.
 -- Assumes nothing.
 use Prim.Native.Nat.{_*_}
 use mathlib.Core.Path.{sym}
 use native.Mathlib.Omega.{arith}
 use borrow.Author.Needs.{needs}
 use lib.Seq.{take-all, length-take-le}
-use Rattle.region.proofs.row.actions_in.Statement.{statement}
-use Rattle.region.proofs.row.actions_in.Tie as tie
+use Rattle.row.proofs.actions_in.Statement.{statement}
+use Rattle.row.proofs.actions_in.Tie as tie
 
 returns : tie.Need-returns
 returns c =

@@ -5,7 +5,7 @@ ghost use mathlib.Core.Path.{_≡_};
 ghost use Prim.Native.Nat.{_*_};
 ghost use lib.ListN.{length, getD, take};
 ghost use Rattle.action.specs.Views.{zeroView};
-ghost use Rattle.region.specs.Views.{viewsOf};
+ghost use Rattle.row.specs.Row.{viewsOf};
 
 // The front of a row that has a number of actions.
 pub fn actions_in(list: &[u64], count: usize) -> &[u64]

@@ -1,11 +1,11 @@
--- `region::row::action_in` meets its contract: a view's numbers stand at four times its index and after.
+-- `row::action_in` meets its contract: a view's numbers stand at four times its index and after.
 -- Assumes nothing.
 use mathlib.Core.Path.{sym}
 use native.Mathlib.Omega.{arith}
 use borrow.Author.Needs.{needs}
-use Rattle.region.proofs.InRow.{view-at, no-view-at}
-use Rattle.region.proofs.row.action_in.Statement.{statement}
-use Rattle.region.proofs.row.action_in.Tie as tie
+use Rattle.row.proofs.InRow.{view-at, no-view-at}
+use Rattle.row.proofs.action_in.Statement.{statement}
+use Rattle.row.proofs.action_in.Tie as tie
 
 returns : tie.Need-returns
 returns c = sym (no-view-at _ _ _ (omega arith))

@@ -7,7 +7,7 @@ use lib.ListN.{length, getD, drop, length-map, List·getD-map}
 use lib.Seq.{drop-cons}
 use Rattle.action.specs.declared.ActionView.{ActionView}
 use Rattle.action.specs.Views.{actionAt}
-use Rattle.region.specs.Views.{viewsOf, actionsIn}
+use Rattle.row.specs.Row.{viewsOf, actionsIn}
 
 pub actions-step : (s row : List ℕ) (i : ℕ) (d : ActionView) → i < length (viewsOf row)
     → drop i (actionsIn s row) ≡ actionAt s (getD (viewsOf row) i d) ∷ drop (suc i) (actionsIn s row)

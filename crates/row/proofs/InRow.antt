@@ -6,7 +6,7 @@ use Prim.Native.Nat.{ℕ, zero, suc, _+_, _*_, _/_, _%_, _<_, _≤_}
 use native.Mathlib.Omega.{arith}
 use lib.ListN.{length, getD, take, set}
 use Rattle.action.specs.declared.ActionView.{ActionView}
-use Rattle.region.specs.Views.{viewsOf, rowOf}
+use Rattle.row.specs.Row.{viewsOf, rowOf}
 
 -- a view's place in a row, for the next index
 next : (i k : ℕ) → suc (suc (suc (suc (4 * i + k)))) ≡ 4 * suc i + k
