@@ -31,7 +31,7 @@ use Rattle.region.specs.declared.Parsed.{Parsed as region-Parsed}
 use Rattle.creation.specs.Creation.{creation, howOften}
 use Rattle.creation.specs.Views.{storedAnswer}
 use Rattle.mints.specs.Mints.{listedMints}
-use Rattle.compact.specs.Compact.{programsOf, reading, within}
+use Rattle.compact.specs.Views.{programsOf, reading, within}
 use Rattle.compact.specs.declared.Entries.{Entries}
 use Rattle.compact.specs.declared.Entry.{Entry}
 use Rattle.compact.specs.declared.Parsed.{Parsed as compact-Parsed}

@@ -8,7 +8,8 @@ use Rattle.answer.specs.Numbers.{answer, accepted}
 use Rattle.compact.specs.declared.Entry.{Entry}
 use Rattle.compact.specs.declared.Parsed.{Parsed}
 use Rattle.compact.specs.declared.Head.the-variants.{At}
-use Rattle.compact.specs.Compact.{mostInstructions, decodeOne, zeroEntry, entriesOf, reading, entriesIn, programsIn, programsOf, headOf}
+use Rattle.compact.specs.Compact.{mostInstructions, decodeOne}
+use Rattle.compact.specs.Views.{zeroEntry, entriesOf, reading, entriesIn, programsIn, programsOf, headOf}
 use Rattle.compact.proofs.Reading.{ReadSoFar, read-none, read-all, read-one}
 
 abbrev indexesOf : List Entry → List ℕ

@@ -14,7 +14,8 @@ use Rattle.answer.proofs.Each.{each-so}
 use Rattle.answer.specs.Numbers.{answer, accepts, accepted}
 use Rattle.number.specs.Number.{Bytes, bytesOf}
 use Rattle.number.proofs.Laws.{bytes-append, bytesOf-bytes}
-use Rattle.compact.specs.Compact.{Instruction, WritableOne, Writable, BeginsWithAList, mostInstructions, mostAccounts, mostPayload, Read, encodeOne, encodeEach, encode, byte, decodeEach, decode, placed, entriesOf, refused, reading}
+use Rattle.compact.specs.Compact.{Instruction, WritableOne, Writable, BeginsWithAList, mostInstructions, mostAccounts, mostPayload, Read, encodeOne, encodeEach, encode, byte, decodeEach, decode}
+use Rattle.compact.specs.Views.{placed, entriesOf, refused, reading}
 use Rattle.compact.proofs.Format.{each-encoded, each-again, each-count, decode-count, decode-too-many}
 use Rattle.compact.proofs.Reading.{outcome, reading-of}
 

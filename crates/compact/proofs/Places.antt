@@ -9,7 +9,8 @@ use lib.Seq.{take-append-seam}
 use Rattle.number.specs.Number.{bytesOf}
 use Rattle.number.proofs.Laws.{length-bytesOf}
 use Rattle.compact.specs.declared.Entry.{Entry}
-use Rattle.compact.specs.Compact.{Instruction, mostInstructions, encodeOne, encodeEach, encode, part, meant, placedOne, placed, zeroEntry, entriesOf, entriesIn, listOf}
+use Rattle.compact.specs.Compact.{Instruction, mostInstructions, encodeOne, encodeEach, encode}
+use Rattle.compact.specs.Views.{part, meant, placedOne, placed, zeroEntry, entriesOf, entriesIn, listOf}
 use Rattle.compact.proofs.Parts.{part-at}
 
 pub entries-held : (es : List Entry) → entriesIn (entriesOf es) ≡ es

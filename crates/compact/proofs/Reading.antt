@@ -16,7 +16,8 @@ use Rattle.compact.specs.declared.Entry.{Entry}
 use Rattle.compact.specs.declared.Entries.{Entries}
 use Rattle.compact.specs.declared.Parsed.{Parsed}
 use Rattle.compact.specs.declared.Head.the-variants.{At, Short}
-use Rattle.compact.specs.Compact.{Instruction, Read, _>>=_, byte, mostInstructions, encodeOne, decodeOne, decodeEach, decode, placedOne, placed, zeroEntry, entriesOf, refused, reading, headOf}
+use Rattle.compact.specs.Compact.{Instruction, Read, _>>=_, byte, mostInstructions, encodeOne, decodeOne, decodeEach, decode}
+use Rattle.compact.specs.Views.{placedOne, placed, zeroEntry, entriesOf, refused, reading, headOf}
 use Rattle.compact.proofs.Parts.{length-part, cut, two-off, filled}
 use Rattle.compact.proofs.Format.{Lies, lies-is-read, read-lies, one-size, one-rest, length-encodeOne, each-count, decode-count, decode-too-many}
 

@@ -11,7 +11,8 @@ use Rattle.answer.specs.Numbers.{answer, accepts, accepted}
 use Rattle.answer.specs.Outcome.{one-outcome}
 use Rattle.number.specs.Number.{Bytes}
 use Rattle.compact.specs.declared.Parsed.{Parsed}
-use Rattle.compact.specs.Compact.{Instruction, Writable, BeginsWithAList, mostInstructions, Read, encode, decodeOne, decode, placed, entriesOf, listOf, reading}
+use Rattle.compact.specs.Compact.{Instruction, Writable, BeginsWithAList, mostInstructions, Read, encode, decodeOne, decode}
+use Rattle.compact.specs.Views.{placed, entriesOf, listOf, reading}
 use Rattle.compact.proofs.Format.{one-extends, each-extends, needs-all, decode-count}
 use Rattle.compact.proofs.Lists.{decoded, decode-encoded, short, encoded-again, decoded-writable, each-bytes, reading-encoded, accepted-begins}
 

@@ -1,2 +1,3 @@
 pub mod Compact
+pub mod Views
 pub mod NamedValues

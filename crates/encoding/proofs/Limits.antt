@@ -11,7 +11,8 @@ use lib.ListN.{length, length-append, length-take, length-map}
 use Rattle.answer.specs.Each.{Each}
 use Rattle.compact.specs.declared.Entry.{Entry}
 use Rattle.compact.specs.declared.Entries.{Entries}
-use Rattle.compact.specs.Compact.{Instruction, WritableOne, mostInstructions, mostAccounts, mostPayload, encodeOne, encodeEach, encode, part, meant, placedOne, placed, entriesOf, entriesIn, listOf, within}
+use Rattle.compact.specs.Compact.{Instruction, WritableOne, mostInstructions, mostAccounts, mostPayload, encodeOne, encodeEach, encode}
+use Rattle.compact.specs.Views.{part, meant, placedOne, placed, entriesOf, entriesIn, listOf, within}
 use Rattle.compact.proofs.Format.{length-encodeOne}
 use Rattle.compact.proofs.Reading.{length-placed}
 use Rattle.compact.proofs.Places.{entries-held, here, after}

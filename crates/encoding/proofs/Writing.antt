@@ -16,7 +16,8 @@ use Rattle.number.specs.Number.{bytesOf}
 use Rattle.number.proofs.Laws.{length-bytesOf}
 use Rattle.compact.specs.declared.Entry.{Entry}
 use Rattle.compact.specs.declared.Entries.{Entries}
-use Rattle.compact.specs.Compact.{Instruction, mostInstructions, mostAccounts, mostPayload, encodeOne, encodeEach, encode, part, meant, entriesIn, listOf, within}
+use Rattle.compact.specs.Compact.{Instruction, mostInstructions, mostAccounts, mostPayload, encodeOne, encodeEach, encode}
+use Rattle.compact.specs.Views.{part, meant, entriesIn, listOf, within}
 use Rattle.compact.proofs.Parts.{length-part}
 use Rattle.compact.proofs.Format.{length-encodeOne}
 use Rattle.encoding.specs.declared.Size.{Size}

@@ -9,7 +9,8 @@ use Rattle.answer.specs.declared.Answer.{Answer}
 use Rattle.answer.specs.Numbers.{accepts, noRoom, notEncodable, firstRefusal, refuseIf}
 use Rattle.compact.specs.declared.Entry.{Entry}
 use Rattle.compact.specs.declared.Entries.{Entries}
-use Rattle.compact.specs.Compact.{mostInstructions, mostAccounts, mostPayload, encode, entriesIn, listOf, within}
+use Rattle.compact.specs.Compact.{mostInstructions, mostAccounts, mostPayload, encode}
+use Rattle.compact.specs.Views.{entriesIn, listOf, within}
 use Rattle.encoding.specs.declared.Written.{Written}
 use Rattle.encoding.specs.declared.Size.{Size}
 use Rattle.encoding.specs.declared.Size.the-variants.{Of, NotEncodable}

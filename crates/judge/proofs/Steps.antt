@@ -32,7 +32,8 @@ use Rattle.mints.proofs.Held.{listed-mints-hold}
 use Rattle.compact.specs.declared.Entry.{Entry}
 use Rattle.compact.specs.declared.Parsed.{Parsed as ReadList}
 use Rattle.compact.specs.declared.Programs.{Programs}
-use Rattle.compact.specs.Compact.{Instruction, Read, decode, reading, placed, placedOne, programsIn, programsOf as indexesOf, refused as noList}
+use Rattle.compact.specs.Compact.{Instruction, Read, decode}
+use Rattle.compact.specs.Views.{reading, placed, placedOne, programsIn, programsOf as indexesOf, refused as noList}
 use Rattle.compact.proofs.Indexes.{programs-counted, programs-answer}
 use Rattle.compact.proofs.Places.{entries-held}
 use Rattle.compact.proofs.Reading.{reading-of, outcome}

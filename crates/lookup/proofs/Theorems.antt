@@ -16,7 +16,7 @@ use Rattle.answer.specs.Numbers.{answer, accepted, refuseIf, invalidInstruction
 use Rattle.answer.specs.Refusable.{Refusable, given, refused}
 use Rattle.number.specs.Number.{number}
 use Rattle.compact.specs.declared.Entry.{Entry}
-use Rattle.compact.specs.Compact.{within, part}
+use Rattle.compact.specs.Views.{within, part}
 use Rattle.compact.proofs.Parts.{length-part}
 use Rattle.account.specs.Record.{Record}
 use Rattle.table.specs.Table.{cutRecords, cutTable, recordsOf}

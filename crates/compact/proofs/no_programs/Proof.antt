@@ -1,7 +1,8 @@
 -- `compact::no_programs` meets its contract: the refusal's number, and the indexes of entries of zeros.
 -- Assumes nothing.
 use borrow.Author.Needs.{needs}
-use Rattle.compact.specs.Compact.{mostInstructions, zeroEntry, entriesOf, refused, programsOf}
+use Rattle.compact.specs.Compact.{mostInstructions}
+use Rattle.compact.specs.Views.{zeroEntry, entriesOf, refused, programsOf}
 use Rattle.compact.proofs.no_programs.Statement.{statement}
 use Rattle.compact.proofs.no_programs.Tie as tie
 

@@ -5,7 +5,8 @@ use Prim.Native.Nat.{_-_}
 use mathlib.Core.Path.{sym, ap, _∙_}
 use native.Mathlib.Omega.{arith}
 use borrow.Author.Needs.{needs}
-use Rattle.compact.specs.Compact.{mostInstructions, programsOf}
+use Rattle.compact.specs.Compact.{mostInstructions}
+use Rattle.compact.specs.Views.{programsOf}
 use Rattle.compact.proofs.Reading.{reading-empty, reading-too-many, read-short}
 use Rattle.compact.proofs.Indexes.{IndexesSoFar, indexes-none, indexes-one, indexes-all}
 use Rattle.compact.proofs.parse_programs.Statement.{statement}

@@ -1,7 +1,7 @@
 -- `compact::refused` meets its contract: it is made of the refusal's number and of no entries.
 -- Assumes nothing.
 use borrow.Author.Needs.{needs}
-use Rattle.compact.specs.Compact.{refused}
+use Rattle.compact.specs.Views.{refused}
 use Rattle.compact.proofs.refused.Statement.{statement}
 use Rattle.compact.proofs.refused.Tie as tie
 

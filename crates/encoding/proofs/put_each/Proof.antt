@@ -9,7 +9,8 @@ use native.Mathlib.Omega.{arith}
 use borrow.Author.Needs.{needs}
 use lib.ListN.{length, drop, length-map}
 use lib.Seq.{sets}
-use Rattle.compact.specs.Compact.{mostInstructions, zeroEntry, entriesIn, encodeEach, listOf}
+use Rattle.compact.specs.Compact.{mostInstructions, encodeEach}
+use Rattle.compact.specs.Views.{zeroEntry, entriesIn, listOf}
 use Rattle.encoding.specs.Encoding.{encodableEach}
 use Rattle.encoding.proofs.Writing.{sets-append, leftToStore, left-all, left-none, Next, next-entry, length-encode}
 use Rattle.encoding.proofs.put_each.Statement.{statement}

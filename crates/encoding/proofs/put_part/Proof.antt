@@ -7,7 +7,7 @@ use native.Mathlib.Nat.{add-zero, sub-zero}
 use native.Mathlib.Omega.{arith}
 use lib.ListN.{length, take, drop, length-set}
 use lib.Seq.{sets}
-use Rattle.compact.specs.Compact.{part}
+use Rattle.compact.specs.Views.{part}
 use Rattle.encoding.proofs.Writing.{part-turn}
 use Rattle.encoding.proofs.put_part.Statement.{statement}
 use Rattle.encoding.proofs.put_part.Tie as tie

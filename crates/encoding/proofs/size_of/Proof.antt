@@ -6,7 +6,8 @@ use native.Mathlib.Numerals.{add-one}
 use native.Mathlib.Omega.{arith}
 use borrow.Author.Needs.{needs}
 use lib.ListN.{length, drop, length-map}
-use Rattle.compact.specs.Compact.{mostInstructions, mostAccounts, mostPayload, entriesIn, encode, listOf}
+use Rattle.compact.specs.Compact.{mostInstructions, mostAccounts, mostPayload, encode}
+use Rattle.compact.specs.Views.{entriesIn, listOf}
 use Rattle.encoding.specs.Encoding.{sizeIf, encodableEach}
 use Rattle.encoding.proofs.Writing.{sizingOn, sizing-starts, sizing-stops, sizing-goes-on, sizing-ends, size-bound, entry-none}
 use Rattle.encoding.proofs.size_of.Statement.{statement}

@@ -5,7 +5,7 @@ use native.Mathlib.Nat.{add-sub-cancel-left}
 use native.Mathlib.Omega.{arith}
 use borrow.Author.Tests.{not-true, not-false}
 use borrow.Author.Needs.{needs}
-use Rattle.compact.specs.Compact.{part}
+use Rattle.compact.specs.Views.{part}
 use Rattle.lookup.proofs.Lookups.{within-ends, accounts-past-the-end, payload-past-the-end, program-past-the-count, accounts-decide}
 use Rattle.lookup.proofs.is_resolvable.Statement.{statement}
 use Rattle.lookup.proofs.is_resolvable.Tie as tie

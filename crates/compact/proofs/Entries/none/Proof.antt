@@ -1,7 +1,8 @@
 -- `compact::Entries::none` meets its contract, by computation.
 -- Assumes nothing.
 use mathlib.Core.Path.{refl}
-use Rattle.compact.specs.Compact.{entriesOf, zeroEntry, mostInstructions}
+use Rattle.compact.specs.Views.{entriesOf, zeroEntry}
+use Rattle.compact.specs.Compact.{mostInstructions}
 use Rattle.compact.proofs.Entries.none.Statement.{statement}
 use Rattle.compact.proofs.Entries.none.Tie as tie
 
