@@ -4,6 +4,7 @@ use Prim.Native.Nat.{ℕ, _+_, _≤_}
 use mathlib.Core.Path.{_≡_}
 use mathlib.Core.Bool.{Bool, true, cond, _&&_}
 use mathlib.Core.List.{List, [], _∷_}
+use Rattle.answer.specs.Each.{Each}
 use Rattle.answer.specs.Numbers.{accepts}
 use Rattle.number.specs.Number.{Bytes, highest}
 use Rattle.creation.specs.Creation.{creation}
@@ -16,8 +17,7 @@ Created region = Bytes region × (accepts (creation region) ≡ true)
 
 -- the slots of some calls are numbers of 64 bits, in any order
 abbrev pub Slotted : List Call → Type 0
-Slotted [] = Unit {0}
-Slotted (call ∷ calls) = (call .slot ≤ highest) × Slotted calls
+Slotted calls = Each (λ (call : Call). call .slot ≤ highest) calls
 
 -- the region after a run: each call is judged on what the one before it left
 unfoldable pub afterRun : List ℕ → List Call → List ℕ
