@@ -31,13 +31,9 @@ amountsOf a = drop (mintLength (a .kind)) (a .payload)
 
 -- ---- the numbers among some amounts
 
--- what is left of a limit (types 1 and 4)
+-- what is left of a limit (types 1 and 4), or the most of one call (3 and 6)
 abbrev pub remaining : List ℕ → ℕ
 remaining amounts = numberAt 8 amounts 0
-
--- the most of one call (3 and 6)
-abbrev pub maximum : List ℕ → ℕ
-maximum amounts = numberAt 8 amounts 0
 
 -- the most of one window (2 and 5), what is spent in it, its slots and the slot that it began at
 abbrev pub limit : List ℕ → ℕ

@@ -9,7 +9,7 @@ ghost use mathlib.Core.Path.{_≡_};
 ghost use Rattle.action.specs.Action.{expired};
 ghost use Rattle.action.specs.Views.{actionAt, dataAt};
 ghost use Rattle.action.specs.Fields.{isToken, isRecurring, keyOf, mintLength, amountsOf};
-ghost use Rattle.action.specs.Fields.{remaining as remainingOf, maximum as maximumOf, limit as limitOf, spent as spentOf, window as windowOf, lastReset};
+ghost use Rattle.action.specs.Fields.{remaining as remainingOf, limit as limitOf, spent as spentOf, window as windowOf, lastReset};
 
 pub fn is_token(kind: u8) -> bool
     ensures { λ r. ⌜ r ≡ isToken kind ⌝ }
@@ -89,12 +89,6 @@ pub fn mint_length(kind: u8) -> usize
 
 pub fn remaining(amounts: &[u8]) -> u64
     ensures { λ r. ⌜ r ≡ remainingOf (now (amounts .entry)) ⌝ }
-{
-    number::read_u64(amounts, 0)
-}
-
-pub fn maximum(amounts: &[u8]) -> u64
-    ensures { λ r. ⌜ r ≡ maximumOf (now (amounts .entry)) ⌝ }
 {
     number::read_u64(amounts, 0)
 }

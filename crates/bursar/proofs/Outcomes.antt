@@ -10,7 +10,6 @@ use lib.Dec.{leb, ltb}
 use lib.ListN.{getD, length, take}
 use Rattle.answer.specs.Numbers.{accepts, answer}
 use Rattle.answer.specs.Outcome.{one-outcome}
-use Rattle.answer.specs.Refusable.{refused}
 use Rattle.answer.specs.declared.Answer.{Answer}
 use Rattle.number.specs.Number.{cappedSum, flooredDifference, numberAt, withNumberAt}
 use Rattle.key.specs.Key.{keyFrom, sameBytes, sameKey}
@@ -18,15 +17,14 @@ use Rattle.key.specs.declared.Key.{Key}
 use Rattle.keys.specs.Keys.{isAmong, keysIn, keysOf, mostKeys, withKey}
 use Rattle.keys.specs.declared.Keys.{Keys}
 use Rattle.action.specs.Action.{dataLength, expired}
-use Rattle.action.specs.Fields.{amountsOf, isRecurring, isToken, keyOf, lastReset, limit as limitOf, maximum as maximumOf, mintLength, remaining as remainingOf, spent as spentOf, window as windowOf}
+use Rattle.action.specs.Fields.{amountsOf, isRecurring, isToken, keyOf, lastReset, limit as limitOf, mintLength, remaining as remainingOf, spent as spentOf, window as windowOf}
 use Rattle.action.specs.Views.{actionAt, dataAt, writtenAt, zeroView as action-zeroView}
 use Rattle.action.specs.declared.ActionView.{ActionView}
 use Rattle.change.specs.Changed.{changed}
 use Rattle.change.specs.declared.Change.{Change}
 use Rattle.row.specs.Row.{actionsIn, kindsIn, viewsOf as row-viewsOf}
 use Rattle.region.specs.Region.{cut, mostActions}
-use Rattle.region.specs.Views.{headerAnswer, headerAt, parsedOf}
-use Rattle.region.specs.declared.HeaderRead.{HeaderRead}
+use Rattle.region.specs.Views.{parsedOf}
 use Rattle.region.specs.declared.Parsed.{Parsed as region-Parsed}
 use Rattle.creation.specs.Creation.{creation, howOften}
 use Rattle.creation.specs.Views.{storedAnswer}
@@ -210,11 +208,6 @@ pub action-fields-remaining : (amounts : List ℕ)
     → OneOutcome (λ (r : ℕ). r ≡ remainingOf amounts)
 action-fields-remaining _ _ _ p q = one-outcome p q
 
--- action::fields::maximum
-pub action-fields-maximum : (amounts : List ℕ)
-    → OneOutcome (λ (r : ℕ). r ≡ maximumOf amounts)
-action-fields-maximum _ _ _ p q = one-outcome p q
-
 -- action::fields::limit
 pub action-fields-limit : (amounts : List ℕ)
     → OneOutcome (λ (r : ℕ). r ≡ limitOf amounts)
@@ -265,21 +258,6 @@ pub row-action-in : (actions : List ℕ) (i : ℕ)
 row-action-in _ _ _ _ p q = one-outcome p q
 
 -- ---- region
-
--- region::parse::read_header
-pub region-parse-read-header : (region : List ℕ) (at : ℕ)
-    → OneOutcome (λ (r : HeaderRead). r ≡ headerAt region at)
-region-parse-read-header _ _ _ _ p q = one-outcome p q
-
--- region::parse::header_answer
-pub region-parse-header-answer : (read : HeaderRead)
-    → OneOutcome (λ (r : Answer). r ≡ headerAnswer read)
-region-parse-header-answer _ _ _ p q = one-outcome p q
-
--- region::parse::Parsed::refused
-pub region-parse-Parsed-refused : (answer : Answer)
-    → OneOutcome (λ (r : region-Parsed). r ≡ parsedOf (refused answer))
-region-parse-Parsed-refused _ _ _ p q = one-outcome p q
 
 -- region::parse::parse_actions
 pub region-parse-parse-actions : (region : List ℕ)

@@ -21,7 +21,7 @@ fn short() -> HeaderRead
 
 // The view of the action whose header starts at `at`; refused where the header is short, the type
 // unknown or the data past the end.
-pub fn read_header(region: &[u8], at: usize) -> HeaderRead
+fn read_header(region: &[u8], at: usize) -> HeaderRead
     ensures { λ r. ⌜ r ≡ headerAt (now (region .entry)) at ⌝ }
 {
     if region.len() < at {
@@ -48,7 +48,7 @@ pub fn read_header(region: &[u8], at: usize) -> HeaderRead
 }
 
 // The refusal of a header's answer, or acceptance.
-pub fn header_answer(read: HeaderRead) -> Answer
+fn header_answer(read: HeaderRead) -> Answer
     ensures { λ r. ⌜ r ≡ headerAnswer read ⌝ }
 {
     match read {
@@ -59,7 +59,7 @@ pub fn header_answer(read: HeaderRead) -> Answer
 
 impl Parsed {
     // A refusal has no views.
-    pub fn refused(answer: Answer) -> Self
+    fn refused(answer: Answer) -> Self
         ensures { λ r. ⌜ r ≡ parsedOf (refused answer) ⌝ }
     {
         Parsed {
