@@ -1,26 +1,24 @@
--- Bytes that hold a whole opening or a whole call tell all of it: more input behind them changes nothing, so the program may stop reading there.
+-- Bytes that hold a whole opening or a whole call tell all of it: more input behind them changes nothing, so a reader may stop there.
 -- What was read is there, and a call's parts follow its head.
 -- Assumes nothing.
 use Prim.Native.Nat.{ℕ, _+_, _-_, _<_, _≤_}
 use mathlib.Core.Path.{_≡_, sym, ap, _∙_}
-use mathlib.Core.Bool.{Bool}
 use mathlib.Core.List.{List, _++_, append-assoc}
 use mathlib.Core.Logic.{_⊎_, inl, inr, ⊎-elim}
 use native.Mathlib.Nat.{eq-zero-or-pos}
 use native.Mathlib.Omega.{arith}
 use lib.ListN.{length, take, drop, length-append, length-drop}
 use lib.Seq.{take-append-le, drop-append-le, take-add}
-use Rattle.number.specs.Number.{number, numberAt, cappedSum, highest}
-use Rattle.number.proofs.Laws.{number-there}
-use Rattle.frame.specs.declared.Part.{Part}
+use Rattle.number.specs.Number.{Bytes, number, numberAt}
+use Rattle.number.proofs.Laws.{number-there, number-not-there, read-below}
+use Rattle.part.proofs.Laws.{part-there}
 use Rattle.frame.specs.declared.Call.{Call}
-use Rattle.frame.specs.declared.Frame.the-variants.{Whole, Cut as CallCut, End}
-use Rattle.frame.specs.declared.Tally.{Tally}
-use Rattle.frame.specs.declared.Opening.the-variants.{Region, Cut as OpeningCut}
-use Rattle.frame.specs.Frame.{regionLengthSize, callHead, mostParts, partIn, openingOf, partsLength, partsToRead, wholeCall, callOf, tallied}
-use Rattle.frame.proofs.Frames.{part-there, opening-short, opening-past, opening-there, to-read-there, call-end, call-short, call-long, call-past, call-there}
+use Rattle.frame.specs.declared.Front.the-variants.{Whole, Long, Short}
+use Rattle.frame.specs.Frame.{regionLengthSize, callHead, mostParts, openingSize, openingRegion, partIn, partsLength, wholeCall, frontOf}
+use Rattle.frame.specs.Views.{callSize}
+use Rattle.frame.proofs.Frames.{size-short, size-long, size-there, front-short, front-long, front-past, front-there}
 
-le-or-lt : (a b : ℕ) → (a ≤ b) ⊎ (b < a)
+pub le-or-lt : (a b : ℕ) → (a ≤ b) ⊎ (b < a)
 le-or-lt a b = ⊎-elim (λ e. inl (omega arith)) (λ p. inr (omega arith)) (eq-zero-or-pos (a - b))
 
 -- bytes that lie before more input
@@ -35,32 +33,68 @@ number-before-more width s t at h =
     let longer : at + width ≤ length (s ++ t) = simp length-append (omega arith) in
     number-there width (s ++ t) at longer ∙ ap number (front s t at width h) ∙ sym (number-there width s at h)
 
-pub part-before-more-input : (s t : List ℕ) (p : Part) → p .at + p .len ≤ length s → partIn (s ++ t) p ≡ partIn s p
-part-before-more-input s t p h =
-    let longer : p .at + p .len ≤ length (s ++ t) = simp length-append (omega arith) in
-    part-there (s ++ t) p longer ∙ front s t (p .at) (p .len) h ∙ sym (part-there s p h)
+-- ---- the opening
 
-pub opening-before-more-input : (s t : List ℕ) → regionLengthSize + numberAt 2 s 0 ≤ length s → openingOf (s ++ t) ≡ openingOf s
-opening-before-more-input s t h =
-    let same : numberAt 2 (s ++ t) 0 ≡ numberAt 2 s 0 = number-before-more 2 s t 0 (omega arith) in
-    let longer : regionLengthSize + numberAt 2 (s ++ t) 0 ≤ length (s ++ t) = rw same (simp length-append (omega arith)) in
-    opening-there (s ++ t) longer ∙ rw same (sym (opening-there s h))
+pub opening-size-short : (s : List ℕ) → length s < regionLengthSize → openingSize s ≡ regionLengthSize
+opening-size-short s h = rw (number-not-there 2 s 0 (omega arith))
 
-never-region : (s : List ℕ) (p : Part) → length s < regionLengthSize + numberAt 2 s 0 → openingOf s ≡ Region p → ⊥
-never-region s p past e =
-    let cut : openingOf s ≡ OpeningCut = ⊎-elim (λ h. opening-past s h past) (λ short. opening-short s short) (le-or-lt regionLengthSize (length s)) in
-    let z : _≡_ {A = ℕ} 0 1 = cc in
-    omega arith
+pub opening-size-at-least : (s : List ℕ) → regionLengthSize ≤ openingSize s
+opening-size-at-least s = omega arith
 
--- a region that was read lies within the bytes
-pub region-is-there : (s : List ℕ) (p : Part) → openingOf s ≡ Region p → p .at + p .len ≤ length s
-region-is-there s p e =
+pub opening-size-at-most : (s : List ℕ) → Bytes s → openingSize s ≤ 65537
+opening-size-at-most s h = let below = read-below 2 s 0 h in omega arith
+
+pub opening-size-before-more-input : (s t : List ℕ) → regionLengthSize ≤ length s → openingSize (s ++ t) ≡ openingSize s
+opening-size-before-more-input s t h = rw (number-before-more 2 s t 0 (omega arith))
+
+pub opening-region-before-more-input : (s t : List ℕ) → openingSize s ≤ length s → openingRegion (s ++ t) ≡ openingRegion s
+unfolding openingRegion
+opening-region-before-more-input s t h =
+    rw (number-before-more 2 s t 0 (omega arith)) (front s t regionLengthSize (numberAt 2 s 0) (omega arith))
+
+-- ---- a call
+
+-- how a call's size and what is read of it depend on the bytes: short of a head, too long, or its parts counted
+pub data Sized (s : List ℕ) : Type 0 where
+  short : length s < callHead → callSize s ≡ callHead → frontOf s ≡ Short → Sized s
+  long : callHead ≤ length s → mostParts < partsLength s → callSize s ≡ callHead → frontOf s ≡ Long → Sized s
+  past : callHead ≤ length s → partsLength s ≤ mostParts → callSize s ≡ callHead + partsLength s → length s < callSize s → frontOf s ≡ Short → Sized s
+  there : callHead ≤ length s → partsLength s ≤ mostParts → callSize s ≡ callHead + partsLength s → callSize s ≤ length s
+      → frontOf s ≡ Whole (wholeCall s) → Sized s
+
+pub sized : (s : List ℕ) → Sized s
+sized s =
     ⊎-elim
-    (λ there.
-    let same : record { at = regionLengthSize; len = numberAt 2 s 0 } ≡ p = cc (opening-there s there) in
-    rw (← same) there)
-    (λ past. absurd (never-region s p past e))
-    (le-or-lt (regionLengthSize + numberAt 2 s 0) (length s))
+    (λ head.
+    ⊎-elim
+    (λ fits.
+    let size = size-there s head fits in
+    ⊎-elim
+    (λ all. there head fits size (rw size all) (front-there s head fits all))
+    (λ cut. past head fits size (rw size cut) (front-past s head fits cut))
+    (le-or-lt (callHead + partsLength s) (length s)))
+    (λ over. long head over (size-long s head over) (front-long s head over))
+    (le-or-lt (partsLength s) mostParts))
+    (λ less. short less (size-short s less) (front-short s less))
+    (le-or-lt callHead (length s))
+
+pub call-size-at-least : (s : List ℕ) → callHead ≤ callSize s
+call-size-at-least s = go (sized s)
+  where
+    go : Sized s → callHead ≤ callSize s
+    go (short _ e _) = omega arith
+    go (long _ _ e _) = omega arith
+    go (past _ _ e _ _) = omega arith
+    go (there _ _ e _ _) = omega arith
+
+pub call-size-at-most : (s : List ℕ) → callSize s ≤ callHead + mostParts
+call-size-at-most s = go (sized s)
+  where
+    go : Sized s → callSize s ≤ callHead + mostParts
+    go (short _ e _) = omega arith
+    go (long _ _ e _) = omega arith
+    go (past _ f e _ _) = omega arith
+    go (there _ f e _ _) = omega arith
 
 module _ (s t : List ℕ) (head : callHead ≤ length s) where
   same-length : partsLength (s ++ t) ≡ partsLength s
@@ -71,9 +105,9 @@ module _ (s t : List ℕ) (head : callHead ≤ length s) where
       let c = number-before-more 4 s t 40 (omega arith) in
       rw (a, b, c)
 
-  same-call : wholeCall (s ++ t) ≡ wholeCall s
+  pub whole-call-before-more-input : wholeCall (s ++ t) ≡ wholeCall s
   unfolding wholeCall
-  same-call =
+  whole-call-before-more-input =
       let slot = number-before-more 8 s t 0 (omega arith) in
       let before = number-before-more 8 s t 8 (omega arith) in
       let after = number-before-more 8 s t 16 (omega arith) in
@@ -86,58 +120,40 @@ module _ (s t : List ℕ) (head : callHead ≤ length s) where
   longer : callHead ≤ length (s ++ t)
   longer = simp length-append (omega arith)
 
-  whole-before-more : partsLength s ≤ mostParts → callHead + partsLength s ≤ length s → callOf (s ++ t) ≡ callOf s
-  whole-before-more fits there =
-      let fits' : partsLength (s ++ t) ≤ mostParts = rw same-length fits in
-      let there' : callHead + partsLength (s ++ t) ≤ length (s ++ t) = rw same-length (simp length-append (omega arith)) in
-      call-there (s ++ t) longer fits' there' ∙ rw same-call (sym (call-there s head fits there))
+  pub call-size-before-more-input : callSize (s ++ t) ≡ callSize s
+  call-size-before-more-input =
+      ⊎-elim
+      (λ fits. size-there (s ++ t) longer (rw same-length fits) ∙ rw same-length (sym (size-there s head fits)))
+      (λ over. size-long (s ++ t) longer (rw same-length over) ∙ sym (size-long s head over))
+      (le-or-lt (partsLength s) mostParts)
 
-  long-before-more : mostParts < partsLength s → callOf (s ++ t) ≡ callOf s
-  long-before-more long =
-      let long' : mostParts < partsLength (s ++ t) = rw same-length long in
-      call-long (s ++ t) longer long' ∙ sym (call-long s head long)
-
-pub call-before-more-input : (s t : List ℕ) → callHead + partsToRead s ≤ length s → callOf (s ++ t) ≡ callOf s
-call-before-more-input s t h =
-    let head : callHead ≤ length s = omega arith in
-    ⊎-elim
-    (λ fits. whole-before-more s t head fits (rw (to-read-there s head fits) at h))
-    (λ long. long-before-more s t head long)
-    (le-or-lt (partsLength s) mostParts)
+pub front-before-more-input : (s t : List ℕ) → callSize s ≤ length s → frontOf (s ++ t) ≡ frontOf s
+front-before-more-input s t h = go (sized s)
+  where
+    go : Sized s → frontOf (s ++ t) ≡ frontOf s
+    go (short less e _) = absurd (omega arith)
+    go (long head over _ e) = front-long (s ++ t) (longer s t head) (rw (same-length s t head) over) ∙ sym e
+    go (past _ _ _ cut _) = absurd (omega arith)
+    go (there head fits size all e) =
+        let more : callHead + partsLength (s ++ t) ≤ length (s ++ t) = rw (same-length s t head) (simp length-append (omega arith)) in
+        front-there (s ++ t) (longer s t head) (rw (same-length s t head) fits) more
+        ∙ rw (whole-call-before-more-input s t head) (sym e)
 
 -- a call that was read is the whole call, its parts are there, and they keep to the limit
 pub record CallIsThere (s : List ℕ) (c : Call) : Type 0 where
   pub whole : c ≡ wholeCall s
   pub fits : partsLength s ≤ mostParts
-  pub there : callHead + partsLength s ≤ length s
+  pub size : callSize s ≡ callHead + partsLength s
+  pub all : callSize s ≤ length s
 
-cut-is-no-call : (s : List ℕ) (c : Call) → callOf s ≡ CallCut → callOf s ≡ Whole c → ⊥
-cut-is-no-call s c cut e = let z : _≡_ {A = ℕ} 0 1 = cc in omega arith
-
-end-is-no-call : (s : List ℕ) (c : Call) → callOf s ≡ End → callOf s ≡ Whole c → ⊥
-end-is-no-call s c end e = let z : _≡_ {A = ℕ} 0 1 = cc in omega arith
-
-short-is-no-call : (s : List ℕ) (c : Call) → length s < callHead → callOf s ≡ Whole c → ⊥
-short-is-no-call s c short e =
-    ⊎-elim
-    (λ empty. end-is-no-call s c (call-end s empty) e)
-    (λ some. cut-is-no-call s c (call-short s (λ empty. omega arith) short) e)
-    (eq-zero-or-pos (length s))
-
-pub call-is-there : (s : List ℕ) (c : Call) → callOf s ≡ Whole c → CallIsThere s c
-call-is-there s c e =
-    ⊎-elim
-    (λ head.
-    ⊎-elim
-    (λ fits.
-    ⊎-elim
-    (λ there. record { whole = cc (call-there s head fits there); fits = fits; there = there })
-    (λ past. absurd (cut-is-no-call s c (call-past s head fits past) e))
-    (le-or-lt (callHead + partsLength s) (length s)))
-    (λ long. absurd (cut-is-no-call s c (call-long s head long) e))
-    (le-or-lt (partsLength s) mostParts))
-    (λ short. absurd (short-is-no-call s c short e))
-    (le-or-lt callHead (length s))
+pub call-is-there : (s : List ℕ) (c : Call) → frontOf s ≡ Whole c → CallIsThere s c
+call-is-there s c e = go (sized s)
+  where
+    go : Sized s → CallIsThere s c
+    go (short _ _ f) = absurd (let z : _≡_ {A = ℕ} 0 1 = cc in omega arith)
+    go (long _ _ _ f) = absurd (let z : _≡_ {A = ℕ} 0 1 = cc in omega arith)
+    go (past _ _ _ _ f) = absurd (let z : _≡_ {A = ℕ} 0 1 = cc in omega arith)
+    go (there _ fits size all f) = record { whole = cc; fits = fits; size = size; all = all }
 
 pieces : (s : List ℕ) (h a b c : ℕ)
     → take h s ++ (take a (drop h s) ++ (take b (drop (h + a) s) ++ take c (drop (h + a + b) s))) ≡ take (h + (a + b + c)) s
@@ -148,16 +164,11 @@ pieces s h a b c =
 -- the three parts follow the head, one after the other and nothing between
 pub parts-follow-the-head : (s : List ℕ) → callHead + partsLength s ≤ length s
     → take callHead s
-    ++ (partIn s (wholeCall s .earlier) ++ (partIn s (wholeCall s .later) ++ partIn s (wholeCall s .instructions)))
+    ++ (partIn s (wholeCall s .before) ++ (partIn s (wholeCall s .after) ++ partIn s (wholeCall s .instructions)))
     ≡ take (callHead + partsLength s) s
 unfolding partsLength wholeCall
 parts-follow-the-head s h =
-    let earlier = part-there s (wholeCall s .earlier) (omega arith) in
-    let later = part-there s (wholeCall s .later) (omega arith) in
-    let instructions = part-there s (wholeCall s .instructions) (omega arith) in
-    rw (earlier, later, instructions) (pieces s callHead (numberAt 4 s 32) (numberAt 4 s 36) (numberAt 4 s 40))
-
--- the count is exact as long as it can be
-pub calls-are-counted : (tally : Tally) (accepts : Bool) → tally .calls < highest → tallied tally accepts .calls ≡ tally .calls + 1
-unfolding tallied cappedSum highest
-calls-are-counted tally accepts h = omega arith
+    let before = part-there s (wholeCall s .before .at) (wholeCall s .before .len) (omega arith) in
+    let after = part-there s (wholeCall s .after .at) (wholeCall s .after .len) (omega arith) in
+    let instructions = part-there s (wholeCall s .instructions .at) (wholeCall s .instructions .len) (omega arith) in
+    rw (before, after, instructions) (pieces s callHead (numberAt 4 s 32) (numberAt 4 s 36) (numberAt 4 s 40))

@@ -1,18 +1,16 @@
--- The replay's input: the opening region, the calls after it, and the count of the calls.
+-- The replay's input: the opening region, and the calls after it.
 -- Assumes nothing.
 use Prim.Native.Nat.{ℕ, _+_}
-use mathlib.Core.Bool.{Bool, cond}
-use mathlib.Core.List.{List, []}
-use lib.Dec.{leb, eqb}
+use mathlib.Core.Bool.{cond}
+use mathlib.Core.List.{List}
+use lib.Dec.{leb}
 use lib.ListN.{length, take, drop}
-use Rattle.number.specs.Number.{numberAt, cappedSum}
+use Rattle.number.specs.Number.{numberAt}
+use Rattle.part.specs.Part.{partAt}
 use Rattle.frame.specs.declared.Part.{Part}
 use Rattle.frame.specs.declared.Call.{Call}
-use Rattle.frame.specs.declared.Tally.{Tally}
-use Rattle.frame.specs.declared.Opening.{Opening}
-use Rattle.frame.specs.declared.Opening.the-variants.{Region, Cut as OpeningCut}
-use Rattle.frame.specs.declared.Frame.{Frame}
-use Rattle.frame.specs.declared.Frame.the-variants.{Whole, Cut as CallCut, End}
+use Rattle.frame.specs.declared.Front.{Front}
+use Rattle.frame.specs.declared.Front.the-variants.{Whole, Long, Short}
 
 -- the bytes of the region's length
 abbrev pub regionLengthSize : ℕ
@@ -26,56 +24,40 @@ callHead = 76
 abbrev pub mostParts : ℕ
 mostParts = 60000
 
--- the bytes that a part names, nothing where they are not all there
-unfoldable pub partIn : List ℕ → Part → List ℕ
-partIn s p = cond (leb (p .at + p .len) (length s)) (take (p .len) (drop (p .at) s)) []
+-- how many bytes the opening has: the region's length and the region; the two of its length where that is not all there
+abbrev pub openingSize : List ℕ → ℕ
+openingSize s = regionLengthSize + numberAt 2 s 0
 
--- the opening of an input: the region after its length, or cut where its length or it is not all there
-unfoldable pub openingOf : List ℕ → Opening
-openingOf s =
-    cond (leb regionLengthSize (length s))
-    (cond (leb (regionLengthSize + numberAt 2 s 0) (length s))
-    (Region (record { at = regionLengthSize; len = numberAt 2 s 0 }))
-    OpeningCut)
-    OpeningCut
+-- the region of an opening that is all there: as many bytes behind its length as that says
+unfoldable pub openingRegion : List ℕ → List ℕ
+openingRegion s = take (numberAt 2 s 0) (drop regionLengthSize s)
+
+-- the bytes that a part names, nothing where they are not all there
+abbrev pub partIn : List ℕ → Part → List ℕ
+partIn s p = partAt s (p .at) (p .len)
 
 -- how long a call's three parts are together: table before, table after, instructions
 unfoldable pub partsLength : List ℕ → ℕ
 partsLength s = numberAt 4 s 32 + numberAt 4 s 36 + numberAt 4 s 40
 
--- how much of the input after a call's head is looked at: its parts, where the head is there and they are not too long
-unfoldable pub partsToRead : List ℕ → ℕ
-unfolding partsLength
-partsToRead s = cond (leb callHead (length s)) (cond (leb (partsLength s) mostParts) (partsLength s) 0) 0
-
--- slot, before, after and gross; then the vault key at 44, and the three parts one after the other behind the head
+-- slot, lamports before and after, and gross; then the vault key at 44, and the three parts one after the other behind the head
 unfoldable pub wholeCall : List ℕ → Call
 wholeCall s =
     record {
       slot = numberAt 8 s 0;
-      before = numberAt 8 s 8;
-      after = numberAt 8 s 16;
+      «lamports_before» = numberAt 8 s 8;
+      «lamports_after» = numberAt 8 s 16;
       gross = numberAt 8 s 24;
       vault = record { at = 44; len = 32 };
-      earlier = record { at = callHead; len = numberAt 4 s 32 };
-      later = record { at = callHead + numberAt 4 s 32; len = numberAt 4 s 36 };
+      before = record { at = callHead; len = numberAt 4 s 32 };
+      after = record { at = callHead + numberAt 4 s 32; len = numberAt 4 s 36 };
       instructions = record { at = callHead + numberAt 4 s 32 + numberAt 4 s 36; len = numberAt 4 s 40 };
     }
 
--- what stands at the front of the input after the opening: nothing, a call, or cut where the head or a part is not all there or the parts are too long
-unfoldable pub callOf : List ℕ → Frame
+-- what some bytes begin with: a call that is all there, one whose parts are too long, or less than a call
+unfoldable pub frontOf : List ℕ → Front
 unfolding partsLength wholeCall
-callOf s =
-    cond (eqb (length s) 0)
-    End
-    (cond (leb callHead (length s))
-    (cond (leb (partsLength s) mostParts) (cond (leb (callHead + partsLength s) (length s)) (Whole (wholeCall s)) CallCut) CallCut)
-    CallCut)
-
--- no call yet
-abbrev pub noTally : Tally
-noTally = record { calls = 0; accepted = 0 }
-
--- one call more, accepted or not
-unfoldable pub tallied : Tally → Bool → Tally
-tallied t accepts = record { calls = cappedSum (t .calls) 1; accepted = cond accepts (cappedSum (t .accepted) 1) (t .accepted) }
+frontOf s =
+    cond (leb callHead (length s))
+    (cond (leb (partsLength s) mostParts) (cond (leb (callHead + partsLength s) (length s)) (Whole (wholeCall s)) Short) Long)
+    Short

@@ -1,4 +1,4 @@
--- The call that a frame of the replay's input names.
+-- The call that the front of the replay's input names.
 -- Assumes nothing.
 use Prim.Native.Nat.{ℕ}
 use mathlib.Core.List.{List}
@@ -6,7 +6,7 @@ use Rattle.judge.specs.Judge.{Call as Judged, callOf}
 use Rattle.frame.specs.declared.Call.{Call}
 use Rattle.frame.specs.Frame.{partIn}
 
--- its tables, instructions and vault key are parts of the bytes, its numbers stand in the frame
+-- its tables, instructions and vault key are parts of the bytes, its numbers stand in the call's head
 abbrev pub callIn : List ℕ → Call → Judged
 callIn s c =
-    callOf (partIn s (c .earlier)) (partIn s (c .later)) (partIn s (c .instructions)) (partIn s (c .vault)) (c .slot) (c .before) (c .after) (c .gross)
+    callOf (partIn s (c .before)) (partIn s (c .after)) (partIn s (c .instructions)) (partIn s (c .vault)) (c .slot) (c .«lamports_before») (c .«lamports_after») (c .gross)

@@ -8,14 +8,14 @@ use Rattle.frame.proofs.parts_length.Tie as tie
 read-u32-requires : tie.Need-read-u32-requires
 read-u32-requires c κs = search needs
 
-cast-earlier : tie.Need-cast-earlier
-cast-earlier c = search needs
+cast-before : tie.Need-cast-before
+cast-before c = search needs
 
 read-u32-requires-2 : tie.Need-read-u32-requires-2
 read-u32-requires-2 c κs = search needs
 
-cast-later : tie.Need-cast-later
-cast-later c = search needs
+cast-after : tie.Need-cast-after
+cast-after c = search needs
 
 read-u32-requires-3 : tie.Need-read-u32-requires-3
 read-u32-requires-3 c κs = search needs
@@ -38,9 +38,9 @@ parts-length-spec =
     tie.close
     (tie.spec
     read-u32-requires
-    cast-earlier
+    cast-before
     read-u32-requires-2
-    cast-later
+    cast-after
     read-u32-requires-3
     cast-instructions
     add-result
