@@ -8,6 +8,7 @@ use Prim.Native.Nat.{ℕ, _+_, _<_, _≤_}
 use native.Mathlib.Omega.{arith}
 use borrow.Author.Tests.{eqb-true, ltb-true}
 use lib.Dec.{eqb}
+use lib.ListN.{length}
 use Rattle.answer.specs.Each.{Each}
 use Rattle.answer.specs.Numbers.{accepts}
 use Rattle.answer.specs.Refusable.{given}
@@ -30,7 +31,7 @@ use Rattle.limit.proofs.Taking.{Goes, on, left-and-taken, limit-kept, window-go
 use Rattle.charge.proofs.Accepting.{counts, EachKept}
 use Rattle.outflow.specs.Outflow.{decreaseOf}
 use Rattle.judge.specs.Judge.{Call, recordsBefore, recordsAfter, amountFor, charged, actionsOf, judged, regionAfter}
-use Rattle.judge.proofs.Theorems.{a-refusal-leaves-the-region, writes, an-accepted-call-keeps-the-stored-form, an-accepted-call-keeps-bytes, accepted-charges-keep-their-rules}
+use Rattle.judge.proofs.Theorems.{a-refusal-leaves-the-region, writes, an-accepted-call-keeps-the-stored-form, an-accepted-call-keeps-bytes, an-accepted-call-keeps-the-length, accepted-charges-keep-their-rules}
 use Rattle.bursar.specs.Run.{Fund, sol, tokens, takenBy}
 use Rattle.bursar.specs.Limits.{actionsIn, speaksOf, firstThat}
 
@@ -57,6 +58,14 @@ module _ (region : List ℕ) (call : Call) (st : Stands region) where
         stored = an-accepted-call-keeps-the-stored-form call region (st .stored) e (st .bytes);
       }
       go false e = subst Stands (sym (a-refusal-leaves-the-region region call e)) st
+
+  -- and is as long as it was
+  pub as-long : length (regionAfter region call) ≡ length region
+  as-long = go (accepts (judged region call)) refl
+    where
+      go : (t : Bool) → accepts (judged region call) ≡ t → length (regionAfter region call) ≡ length region
+      go true e = an-accepted-call-keeps-the-length call region (st .stored) e (st .bytes)
+      go false e = ap length (a-refusal-leaves-the-region region call e)
 
   pub actions-are : actionsIn region ≡ st .actions
   actions-are = ap actionsOf (st .stored)

@@ -25,7 +25,7 @@ use Rattle.bursar.specs.Limits.{actionsIn, isLimitOf, isRecurringOf, fir
 use Rattle.bursar.proofs.Terms.{one-call-keeps-the-terms, neither, at-most-one}
 use Rattle.bursar.proofs.OneCall.{Stands, still-stands, Pair, speaks-as, each-keeps, found, takes, limit-goes, recurring-goes}
 
-created-stands : (region : List ℕ) → Created region → Stands region
+pub created-stands : (region : List ℕ) → Created region → Stands region
 created-stands region (bytes, accepted) =
     let (l, stored, fresh) = creation-accepted-is-stored region accepted in
     record { bytes = bytes; actions = l; stored = stored }

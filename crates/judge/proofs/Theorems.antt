@@ -8,7 +8,7 @@ use Prim.Native.Nat.{ℕ, _≤_}
 use native.Mathlib.Omega.{arith}
 use borrow.Author.Tests.{le-leb}
 use lib.Dec.{eqb, ltb, lit≤}
-use lib.ListN.{length, length-map}
+use lib.ListN.{length, length-append, length-map}
 use Rattle.answer.specs.declared.Answer.{Answer}
 use Rattle.answer.specs.Numbers.{answer, accepted, accepts, firstRefusal, refuseIf, inTable}
 use Rattle.answer.specs.Refusable.{Refusable, given, refused}
@@ -17,10 +17,11 @@ use Rattle.number.specs.Number.{Bytes}
 use Rattle.action.specs.Action.{Action, solLimit, solRecurringLimit, solMaxPerTx, tokenLimit, tokenRecurringLimit, tokenMaxPerTx}
 use Rattle.change.specs.declared.Change.{Change}
 use Rattle.change.specs.Changed.{changed}
-use Rattle.region.specs.Region.{glue}
-use Rattle.region.proofs.Gluing.{bytes-glued}
+use Rattle.change.proofs.Changing.{changed-length}
+use Rattle.region.specs.Region.{glueOne, glue}
+use Rattle.region.proofs.Gluing.{length-glueOne, bytes-glued}
 use Rattle.creation.specs.Creation.{howOften, kindsOf, storedActions}
-use Rattle.creation.proofs.Theorems.{stored-is-formed, stored-is-regular, glued-is-stored, formed-changed, regular-changed}
+use Rattle.creation.proofs.Theorems.{stored-is-glued, stored-is-formed, stored-is-regular, glued-is-stored, formed-changed, regular-changed}
 use Rattle.mints.specs.Mints.{isListed}
 use Rattle.compact.specs.Compact.{Instruction, Read, decode}
 use Rattle.account.specs.Record.{Record}
@@ -159,6 +160,14 @@ module _ (call : Call) where
   settled-is-changed [] = refl
   settled-is-changed (a ∷ l) = ap (λ (k : List Action). changed (writes call a) a ∷ k) (settled-is-changed l)
 
+  as-long : (l : List Action) → length (glue (map (λ (a : Action). changed (writes call a) a) l)) ≡ length (glue l)
+  unfolding glue
+  as-long [] = refl
+  as-long (a ∷ l) =
+      let b = changed (writes call a) a in
+      length-append (glueOne b) _
+      ∙ rw (length-glueOne b, changed-length (writes call a) a, as-long l) (sym (length-append (glueOne a) (glue l) ∙ rw (length-glueOne a)))
+
   module _ (region : List ℕ) {l : List Action} (stored : storedActions region ≡ given l) (h : accepts (judged region call) ≡ true) where
     -- the region is its changed actions, glued
     region-written : regionAfter region call ≡ glue (map (λ (a : Action). changed (writes call a) a) l)
@@ -181,6 +190,9 @@ module _ (call : Call) where
     an-accepted-call-keeps-bytes bytes =
         subst Bytes (sym region-written)
         (bytes-glued (map (λ (a : Action). changed (writes call a) a) l) (regular-changed (writes call) l (stored-is-regular region l bytes stored .0)))
+
+    pub an-accepted-call-keeps-the-length : Bytes region → length (regionAfter region call) ≡ length region
+    an-accepted-call-keeps-the-length bytes = ap length region-written ∙ as-long l ∙ ap length (stored-is-glued region l bytes stored)
 
     -- each charge keeps its rule
     pub accepted-charges-keep-their-rules : EachKept (call .slot) (charged call l)

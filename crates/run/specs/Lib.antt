@@ -1,2 +1,3 @@
+pub mod Feeding
 pub mod Replay
 pub mod Views
