@@ -1,11 +1,12 @@
--- That each public function's contract leaves one outcome: the table of numbers, little-endian numbers and keys.
+-- That each public function's contract leaves one outcome: the table of numbers, little-endian numbers, parts and keys.
 -- Assumes nothing.
 use mathlib.Core.Path.{refl}
 use Rattle.answer.proofs as answer
 use Rattle.number.proofs as number
+use Rattle.part.proofs as part
 use Rattle.key.proofs as key
 use Rattle.keys.proofs as keys
-use Rattle.outcomes.specs.Outcome.{OneOutcome}
+use Rattle.outcomes.specs.Outcome.{OneOutcome, OneOutcomeOfSlice}
 use Rattle.outcomes.proofs.Laws.{both, one-outcome}
 
 pub answer-Answer-of : OneOutcome answer.Answer.of.ended answer.Answer.of.Reads.Pre answer.Answer.of.Reads.Post
@@ -31,6 +32,9 @@ number-capped-sum _ _ = (tt, λ _ _ p q. both (one-outcome p q) refl)
 
 pub number-floored-difference : OneOutcome number.floored_difference.ended number.floored_difference.Reads.Pre number.floored_difference.Reads.Post
 number-floored-difference _ _ = (tt, λ _ _ p q. both (one-outcome p q) refl)
+
+pub part-part-at : OneOutcomeOfSlice part.part_at.ended part.part_at.Reads.Pre part.part_at.Reads.Post
+part-part-at _ _ = (tt, λ _ _ p q. both (one-outcome p q) refl)
 
 pub key-same-bytes : OneOutcome key.same_bytes.ended key.same_bytes.Reads.Pre key.same_bytes.Reads.Post
 key-same-bytes _ _ = (tt, λ _ _ p q. both (one-outcome p q) refl)

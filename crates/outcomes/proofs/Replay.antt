@@ -26,6 +26,8 @@ pub run-State-end : OneOutcome run.State.end.ended run.State.end.Reads.Pre run.S
 run-State-end _ _ = (tt, λ _ _ p q. both (one-outcome p q) refl)
 
 pub run-feed : OneOutcome run.feed.ended run.feed.Reads.Pre run.feed.Reads.Post
-run-feed _ _ =
-    (tt, λ _ _ p q.
-    both (one-outcome (p .0) (q .0)) (both refl (both (one-outcome (p .1 .0) (q .1 .0)) (both (one-outcome (p .1 .1) (q .1 .1)) refl))))
+run-feed _ _ = (
+  tt,
+  λ _ _ p q.
+      both (one-outcome (p .0) (q .0)) (both refl (both (one-outcome (p .1 .0) (q .1 .0)) (both (one-outcome (p .1 .1) (q .1 .1)) refl))),
+)

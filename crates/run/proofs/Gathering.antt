@@ -135,7 +135,7 @@ gathered stage memory piece once twice rest got head first size second h a b c d
       g ∙ rw (c, e) (pasted-twice memory piece got first second h few),
     )
 
-clamped : (n : ℕ) (s : List ℕ) → take (min n (length s)) s ≡ take n s
+pub clamped : (n : ℕ) (s : List ℕ) → take (min n (length s)) s ≡ take n s
 clamped n s =
     ⊎-elim
     (λ few.

@@ -2,13 +2,18 @@
 -- Assumes nothing.
 use Prim.Native.Nat.{ℕ}
 use mathlib.Core.Path.{_≡_}
-use mathlib.Core.Bool.{Bool, true, false}
+use mathlib.Core.Bool.{Bool, true, false, cond, _&&_}
 use mathlib.Core.List.{List, [], _∷_, _++_}
-use lib.ListN.{drop}
+use lib.Dec.{leb}
+use lib.ListN.{length, drop}
+use Rattle.answer.specs.Numbers.{accepts}
+use Rattle.creation.specs.Creation.{creation}
+use Rattle.frame.specs.Frame.{openingSize, openingRegion}
+use Rattle.bursar.specs.Run.{afterRun}
 use Rattle.run.specs.declared.State.{State}
 use Rattle.run.specs.declared.Said.{Said}
 use Rattle.run.specs.declared.Said.the-variants.{More, Region, Call, Cut, End}
-use Rattle.run.specs.Replay.{Line, region, call, cut, end}
+use Rattle.run.specs.Replay.{callsIn, Line, region, call, cut, end}
 use Rattle.run.specs.Views.{begun, marked, regionIn, fed, openingFed, frameFed}
 
 -- the line for what was said
@@ -53,6 +58,13 @@ heldMarked h = record { state = marked (h .state) .state; opening = h .opening; 
 -- the region that a run holds
 abbrev pub regionHeld : Held → List ℕ
 regionHeld h = regionIn (h .state) (h .opening)
+
+-- the region that a replay leaves: the opening's after its calls, none where that was not accepted
+unfoldable pub regionLeft : List ℕ → List ℕ
+regionLeft s =
+    cond (leb (openingSize s) (length s) && accepts (creation (openingRegion s)))
+    (afterRun (openingRegion s) (callsIn (drop (openingSize s) s) .list))
+    []
 
 -- fed what is left of an input in some pieces, and the end mark behind the last, a run says some lines up to its end, and is then as it is last held:
 -- a piece is any bytes that come next, and what is not used of it comes again

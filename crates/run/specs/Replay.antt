@@ -1,16 +1,39 @@
 -- The replay: what is printed for the bytes of an input.
 -- Assumes nothing.
 use Prim.Native.Nat.{ℕ, zero, suc, _+_}
-use mathlib.Core.Bool.{cond}
+use mathlib.Core.Bool.{Bool, true, false, cond}
 use mathlib.Core.List.{List, [], _∷_}
-use lib.Dec.{leb}
+use lib.Dec.{leb, ltb}
 use lib.ListN.{length, drop}
 use Rattle.answer.specs.Numbers.{accepts}
 use Rattle.creation.specs.Creation.{creation}
-use Rattle.judge.specs.Judge.{judged, regionAfter}
+use Rattle.judge.specs.Judge.{Call, judged, regionAfter}
 use Rattle.frame.specs.declared.Front.the-variants.{Whole, Long, Short}
 use Rattle.frame.specs.Frame.{callHead, openingSize, openingRegion, partsLength, frontOf}
 use Rattle.framed.specs.Framed.{callIn}
+
+-- the calls in some bytes, and whether the bytes are cut behind them
+pub record Calls : Type 0 where
+  pub list : List Call
+  pub isCut : Bool
+
+abbrev pub oneMore : Call → Calls → Calls
+oneMore call rest = record { list = call ∷ rest .list; isCut = rest .isCut }
+
+-- at most so many calls, until the bytes end, stop inside a call, or hold one whose parts are too long
+unfoldable pub callsUpTo : ℕ → List ℕ → Calls
+callsUpTo zero s = record { list = []; isCut = false }
+callsUpTo (suc most) s =
+    elim (frontOf s) [
+      | Whole c ↦ oneMore (callIn s c) (callsUpTo most (drop (callHead + partsLength s) s))
+      | Long ↦ record { list = []; isCut = true }
+      | Short ↦ record { list = []; isCut = ltb 0 (length s) }
+    ]
+
+-- all of them: no more calls than bytes
+unfoldable pub callsIn : List ℕ → Calls
+unfolding callsUpTo
+callsIn s = callsUpTo (length s) s
 
 -- a line: the region's number; which call, and its number; cut; how many calls were accepted
 pub data Line : Type 0 where
@@ -19,30 +42,19 @@ pub data Line : Type 0 where
   cut : Line
   end : ℕ → Line
 
--- the lines of at most so many calls in some bytes, on a region as it is, with so many calls answered and accepted before:
--- each is judged on what the one before it left, until the bytes end, stop inside a call, or a call's parts are too long
-unfoldable pub linesUpTo : ℕ → List ℕ → ℕ → ℕ → List ℕ → List Line
-linesUpTo zero held calls accepted s = end accepted ∷ []
-linesUpTo (suc most) held calls accepted s =
-    elim (frontOf s) [
-      | Whole c ↦
-          call (calls + 1) (judged held (callIn s c) .number)
-          ∷ linesUpTo most (regionAfter held (callIn s c)) (calls + 1) (accepted + cond (accepts (judged held (callIn s c))) 1 0) (drop (callHead + partsLength s) s)
-      | Long ↦ cut ∷ end accepted ∷ []
-      | Short ↦ elim s [ [] ↦ end accepted ∷ [] | b ∷ t ↦ cut ∷ end accepted ∷ [] ]
-    ]
+-- the lines of some calls on a region, where so many calls came before and so many of them were accepted: each is judged on what the one before it left
+unfoldable pub callLines : List ℕ → ℕ → ℕ → Bool → List Call → List Line
+callLines held calls accepted isCut [] = cond isCut (cut ∷ end accepted ∷ []) (end accepted ∷ [])
+callLines held calls accepted isCut (c ∷ l) =
+    call (calls + 1) (judged held c .number) ∷ callLines (regionAfter held c) (calls + 1) (accepted + cond (accepts (judged held c)) 1 0) isCut l
 
--- the lines of all calls in some bytes: no more calls than bytes
-unfoldable pub callLines : List ℕ → ℕ → ℕ → List ℕ → List Line
-unfolding linesUpTo
-callLines held calls accepted s = linesUpTo (length s) held calls accepted s
-
--- the lines behind the opening: those of the calls where creation accepted the region, else none ran
-unfoldable pub linesAfterOpening : List ℕ → List ℕ → List Line
+-- the lines behind the opening: a refused region runs no calls
+unfoldable pub linesFrom : List ℕ → Calls → List Line
 unfolding callLines
-linesAfterOpening held s = region (creation held .number) ∷ cond (accepts (creation held)) (callLines held 0 0 s) (end 0 ∷ [])
+linesFrom held calls =
+    region (creation held .number) ∷ cond (accepts (creation held)) (callLines held 0 0 (calls .isCut) (calls .list)) (end 0 ∷ [])
 
 -- the lines of an input: cut where it stops inside the opening
 unfoldable pub replayOf : List ℕ → List Line
-unfolding linesAfterOpening
-replayOf s = cond (leb (openingSize s) (length s)) (linesAfterOpening (openingRegion s) (drop (openingSize s) s)) (cut ∷ end 0 ∷ [])
+unfolding linesFrom callsIn
+replayOf s = cond (leb (openingSize s) (length s)) (linesFrom (openingRegion s) (callsIn (drop (openingSize s) s))) (cut ∷ end 0 ∷ [])
