@@ -22,9 +22,15 @@ none-left zero = refl
 none-left (suc most) = refl
 
 module _ (most : ℕ) (s : List ℕ) where
-  up-to-whole : (c : Call) → frontOf s ≡ Whole c → callsUpTo (suc most) s ≡ oneMore (callIn s c) (callsUpTo most (drop (callHead + partsLength s) s))
+  pub up-to-whole : (c : Call) → frontOf s ≡ Whole c → callsUpTo (suc most) s ≡ oneMore (callIn s c) (callsUpTo most (drop (callHead + partsLength s) s))
   unfolding callsUpTo
   up-to-whole c front = rw (front, callsUpTo)
+
+  pub up-to-no-call : (f : Front) → frontOf s ≡ f → ((c : Call) → f ≡ Whole c → ⊥) → callsUpTo (suc most) s .list ≡ []
+  unfolding callsUpTo
+  up-to-no-call (Whole c) front no′ = absurd (no′ c refl)
+  up-to-no-call Long front no′ = rw (front, callsUpTo)
+  up-to-no-call Short front no′ = rw (front, callsUpTo)
 
   up-to-long : frontOf s ≡ Long → callsUpTo (suc most) s ≡ record { list = []; isCut = true }
   unfolding callsUpTo

@@ -5,4 +5,5 @@ pub mod Gathering
 pub mod Laws
 pub mod OpeningStep
 pub mod Pieces
+pub mod Sentence
 pub mod Theorems

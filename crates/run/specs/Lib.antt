@@ -1,3 +1,4 @@
 pub mod Feeding
+pub mod Printed
 pub mod Replay
 pub mod Views
