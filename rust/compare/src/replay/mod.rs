@@ -1,5 +1,7 @@
 //! Runs of calls on one region, as the program `replay` reads them.
 
+pub mod frame;
+
 use std::{fmt::Write as _, fs, io, path::Path, process::Command};
 
 use oracle::Oracle;
@@ -11,7 +13,7 @@ use crate::{
     numbers::{self, RUNNING},
     program,
     progress::Progress,
-    region::{self, Action, Recurring, Rule},
+    region::{lasting, Recurring, Rule},
     report::{Difference, Domain, Report},
     runs::{self, Run},
     subjects::{Published, Subject},
@@ -21,16 +23,6 @@ use crate::{
 pub const REPLAY: &str = "replay";
 
 impl Run {
-    /// The program's input.
-    pub fn encode(&self) -> Vec<u8> {
-        let mut bytes = (self.region.len() as u16).to_le_bytes().to_vec();
-        bytes.extend(&self.region);
-        for call in &self.calls {
-            bytes.extend(call.encode());
-        }
-        bytes
-    }
-
     /// The numbers of the published code, the region's first.
     pub fn numbers(&self, oracle: &Oracle) -> Vec<u32> {
         let mut published = Published(*oracle);
@@ -93,17 +85,13 @@ pub fn compare(oracle: &Oracle, program: &mut Command, seed: u64, runs: u64) -> 
 
 /// The samples by name: B1 and B2 of document 01, and a region that creation refuses.
 pub fn samples() -> [(&'static str, Run); 3] {
-    let never = |rule| Action {
-        expires_at: 0,
-        rule,
-    };
-    let limit = region::encode(&[never(Rule::SolLimit(100))]);
-    let window = region::encode(&[never(Rule::SolRecurringLimit(Recurring {
+    let limit = lasting(&[Rule::SolLimit(100)]);
+    let window = lasting(&[Rule::SolRecurringLimit(Recurring {
         limit: 100,
         spent: 0,
         window: 10,
         last_reset: 0,
-    }))]);
+    })]);
     let run = |region: &[u8], calls: &[(u64, u64)]| Run {
         region: region.to_vec(),
         calls: calls
