@@ -1,157 +1,122 @@
-//! Runs of calls on one region, as the program `replay` reads them.
+//! The program `replay`: runs of calls on one region from its standard input,
+//! and a line for each.
+//!
+//! Inputs that have names come first, then those by [chance](draw). What has to be
+//! printed is read from an input's bytes ([`Reading`]), and the numbers in it are
+//! those of the published code.
 
+mod draw;
 pub mod frame;
+mod named;
+mod reading;
 
-use std::{fmt::Write as _, fs, io, path::Path, process::Command};
-
-use oracle::Oracle;
+use std::{fs, io, path::Path};
 
 use crate::{
     bytes::hex,
-    calls::Call,
     chance::Chance,
-    numbers::{self, RUNNING},
-    program,
+    numbers::{self, CREATION, REPLAYING},
     progress::Progress,
-    region::{lasting, Recurring, Rule},
     report::{Difference, Domain, Report},
-    runs::{self, Run},
-    subjects::{Published, Subject},
+    subjects::Subject,
 };
 
-/// The name in a report.
+pub use draw::draw;
+pub use reading::{Ending, Reading, ENDINGS};
+
+/// The name of a run that differs.
 pub const REPLAY: &str = "replay";
 
-impl Run {
-    /// The numbers of the published code, the region's first.
-    pub fn numbers(&self, oracle: &Oracle) -> Vec<u32> {
-        let mut published = Published(*oracle);
-        let mut region = self.region.clone();
-        let mut numbers = vec![published.create(&region)];
-        if numbers[0] == 0 {
-            let judged = self
-                .calls
-                .iter()
-                .map(|call| published.judge(&mut region, call));
-            numbers.extend(judged);
-        }
-        numbers
-    }
-}
+/// The name of the regions in a report.
+pub const REGIONS: &str = "replay, regions";
 
-/// What the program has to print.
-pub fn lines(numbers: &[u32]) -> String {
-    let mut text = String::new();
-    for (at, number) in numbers.iter().enumerate() {
-        match at {
-            0 => writeln!(text, "region {number}"),
-            _ => writeln!(text, "call {at} {number}"),
-        }
-        .expect("a string takes every character");
-    }
-    let accepted = numbers.iter().skip(1).filter(|number| **number == 0);
-    writeln!(text, "end {}", accepted.count()).expect("a string takes every character");
-    text
-}
+/// The name of the calls in a report.
+pub const CALLS: &str = "replay, calls";
 
-/// Compares what the program prints with the published code, on so many runs.
-pub fn compare(oracle: &Oracle, program: &mut Command, seed: u64, runs: u64) -> io::Result<Report> {
-    let mut report = Report::new(vec![Domain {
-        function: REPLAY,
-        answers: numbers::names(&RUNNING),
-    }]);
+/// The name of the endings in a report.
+pub const ENDS: &str = "replay, endings";
+
+/// Inputs of at most so many bytes are recorded as samples.
+const SMALL: usize = 2_000;
+
+/// What a program prints when it is given some input.
+pub type Prints<'a> = dyn FnMut(Vec<u8>) -> io::Result<String> + 'a;
+
+/// Compares what the program prints with what it has to print by the subject's
+/// numbers, on the named runs and on so many drawn ones.
+pub fn compare(
+    expected: &mut dyn Subject,
+    program: &mut Prints,
+    seed: u64,
+    runs: u64,
+) -> io::Result<Report> {
+    let domain = |function, answers| Domain { function, answers };
+    let mut report = Report::new(vec![
+        domain(REGIONS, numbers::names(&CREATION)),
+        domain(CALLS, numbers::names(&REPLAYING)),
+        domain(ENDS, ENDINGS.map(Ending::name).to_vec()),
+    ]);
+    let mut named = named::runs().into_iter();
+    let all = named.len() as u64 + runs;
     let mut progress = Progress::start();
-    for case in 0..runs {
-        progress.at(REPLAY, case, runs);
-        let run = runs::draw(&mut Chance::of_case(seed, REPLAY, case));
-        let numbers = run.numbers(oracle);
-        for number in &numbers[1..] {
-            report.count(REPLAY, numbers::name(*number));
-        }
-        let input = run.encode();
-        let got = program::output(program, input.clone())?;
-        let expected = lines(&numbers);
+    for case in 0..all {
+        progress.at(REPLAY, case, all);
+        let (name, input) = named.next().unwrap_or_else(|| {
+            let mut chance = Chance::of_case(seed, REPLAY, case);
+            ("drawn".to_string(), draw(&mut chance))
+        });
+        let reading = Reading::of(expected, &input);
+        count(&mut report, &reading);
+        let expected = reading.to_string();
+        let got = program(input.clone())?;
         if got != expected {
             report.differ(|| Difference {
                 function: REPLAY,
                 seed,
                 case,
-                parts: vec![("input", hex(&input)), ("expected", expected), ("got", got)],
+                parts: vec![
+                    ("run", name),
+                    ("input", hex(&input)),
+                    ("expected", expected),
+                    ("got", got),
+                ],
             });
         }
     }
     Ok(report)
 }
 
-/// The samples by name: B1 and B2 of document 01, and a region that creation refuses.
-pub fn samples() -> [(&'static str, Run); 3] {
-    let limit = lasting(&[Rule::SolLimit(100)]);
-    let window = lasting(&[Rule::SolRecurringLimit(Recurring {
-        limit: 100,
-        spent: 0,
-        window: 10,
-        last_reset: 0,
-    })]);
-    let run = |region: &[u8], calls: &[(u64, u64)]| Run {
-        region: region.to_vec(),
-        calls: calls
-            .iter()
-            .map(|&(slot, taken)| spending(slot, taken))
-            .collect(),
-    };
-    [
-        ("sol-limit", run(&limit, &[(0, 40), (0, 61), (0, 60)])),
-        (
-            "recurring-window",
-            run(&window, &[(10, 70), (10, 40), (11, 40), (20, 60), (21, 1)]),
-        ),
-        ("refused-region", run(&limit[..10], &[(0, 40)])),
-    ]
+/// Counts what is expected.
+fn count(report: &mut Report, reading: &Reading) {
+    if let Some(number) = reading.region {
+        report.count(REGIONS, numbers::name(number));
+    }
+    for number in &reading.calls {
+        report.count(CALLS, numbers::name(*number));
+    }
+    report.count(ENDS, reading.ending.name());
 }
 
-/// A call of no instructions and no accounts that takes lamports.
-fn spending(slot: u64, taken: u64) -> Call {
-    Call {
-        before: vec![0, 0],
-        after: vec![0, 0],
-        instructions: vec![0],
-        vault: [0; 32],
-        slot,
-        lamports_before: taken,
-        lamports_after: 0,
-        gross: taken,
-    }
+/// The small ones of the named runs: each input, and what has to be printed by
+/// the subject's numbers.
+pub fn samples(expected: &mut dyn Subject) -> Vec<(String, Vec<u8>, String)> {
+    let small = named::runs()
+        .into_iter()
+        .filter(|(_, input)| input.len() <= SMALL);
+    small
+        .map(|(name, input)| {
+            let text = Reading::of(expected, &input).to_string();
+            (name, input, text)
+        })
+        .collect()
 }
 
 /// Writes each sample to NAME.replay and what the program has to print to NAME.txt.
-pub fn write_samples(oracle: &Oracle, dir: &Path) -> io::Result<()> {
+pub fn write_samples(expected: &mut dyn Subject, dir: &Path) -> io::Result<()> {
     fs::create_dir_all(dir)?;
-    for (name, run) in samples() {
-        fs::write(dir.join(format!("{name}.replay")), run.encode())?;
-        fs::write(dir.join(format!("{name}.txt")), lines(&run.numbers(oracle)))?;
+    for (name, input, text) in samples(expected) {
+        fs::write(dir.join(format!("{name}.replay")), input)?;
+        fs::write(dir.join(format!("{name}.txt")), text)?;
     }
     Ok(())
-}
-
-#[cfg(test)]
-mod tests {
-    use super::*;
-
-    fn oracle() -> Oracle {
-        Oracle::find().expect("ignored where the sources were not found")
-    }
-
-    #[test]
-    #[cfg_attr(not(oracle_sources), ignore)]
-    fn samples_print_what_the_document_shows() {
-        let printed = samples().map(|(_, run)| lines(&run.numbers(&oracle())));
-        assert_eq!(
-            printed,
-            [
-                "region 0\ncall 1 0\ncall 2 7\ncall 3 0\nend 2\n",
-                "region 0\ncall 1 0\ncall 2 8\ncall 3 0\ncall 4 0\ncall 5 0\nend 4\n",
-                "region 1\nend 0\n",
-            ]
-        );
-    }
 }
