@@ -29,12 +29,14 @@ compare bench [--seed S]
     Times judged calls and creation through the archive beside the published Rust.
 
 compare replay [--runs N] [--seed S] --program PATH
-    Draws N runs (100) of up to 200 calls on one region from the seed S (1) and
-    compares what the program `replay` at PATH prints.
+    Compares what the program `replay` at PATH prints: on the runs that have
+    names, then on N (100) runs of up to 200 calls on one region, drawn from the
+    seed S (1). Half of these are cut short, or have too much in them.
+    Fails where a text differs, or a number or an ending is never reached.
 
 compare samples [--out DIR]
-    Writes the sample inputs of `replay` and what it has to print to DIR
-    (samples of the repository).
+    Writes the small ones of the runs that have names, and what `replay` has to
+    print, to DIR (samples of the repository).
 
 compare record [--out DIR] [--check]
     Writes the recorded sample of `vectors` to DIR/stdin and DIR/stdout (DIR is

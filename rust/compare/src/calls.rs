@@ -33,15 +33,7 @@ pub struct Call {
     pub gross: u64,
 }
 
-/// The most bytes that the tables and the instructions of a call may have
-/// together where a program reads it.
-const MAX_PARTS: usize = 60_000;
-
 impl Call {
-    fn parts(&self) -> [&[u8]; 3] {
-        [&self.before, &self.after, &self.instructions]
-    }
-
     /// The call as the C boundary takes it.
     pub fn lent(&self) -> thimbleford::Call<'_> {
         thimbleford::Call {
@@ -54,31 +46,6 @@ impl Call {
             lamports_after: self.lamports_after,
             gross: self.gross,
         }
-    }
-
-    /// Whether a program reads the call.
-    pub fn is_readable(&self) -> bool {
-        self.parts().concat().len() <= MAX_PARTS
-    }
-
-    /// The bytes of the call in a replay's input.
-    pub fn encode(&self) -> Vec<u8> {
-        let mut bytes = Vec::new();
-        for number in [
-            self.slot,
-            self.lamports_before,
-            self.lamports_after,
-            self.gross,
-        ] {
-            bytes.extend(number.to_le_bytes());
-        }
-        let parts = self.parts();
-        for part in parts {
-            bytes.extend((part.len() as u32).to_le_bytes());
-        }
-        bytes.extend(self.vault);
-        bytes.extend(parts.concat());
-        bytes
     }
 }
 
@@ -170,14 +137,9 @@ fn spoil(chance: &mut Chance, actions: &[Action], region: &mut Vec<u8>, call: &m
         }
         _ => {
             let lists = [Rule::ProgramWhitelist, Rule::ProgramBlacklist];
-            let twice = actions.iter().chain(actions).copied();
-            let both = lists.iter().map(|list| Action {
-                expires_at: 0,
-                rule: list(call.vault),
-            });
             *region = match chance.one_in(2) {
-                true => region::encode(&twice.collect::<Vec<_>>()),
-                false => region::encode(&both.collect::<Vec<_>>()),
+                true => region::encode(&[actions, actions].concat()),
+                false => region::lasting(&lists.map(|list| list(call.vault))),
             };
         }
     }

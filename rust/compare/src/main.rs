@@ -13,7 +13,7 @@ use std::{
 
 use arguments::{Comparison, Task, HELP};
 use compare::{
-    bench,
+    bench, program,
     record::Sample,
     replay, runner,
     runs::Run,
@@ -69,13 +69,14 @@ fn perform(task: Task) -> Result<bool, Box<dyn Error>> {
             seed,
             program,
         } => {
-            let program = program.ok_or("--program is missing")?;
-            let report = replay::compare(&oracle, &mut Command::new(program), seed, runs)?;
+            let mut program = Command::new(program.ok_or("--program is missing")?);
+            let mut prints = |input| program::output(&mut program, input);
+            let report = replay::compare(&mut Published(oracle), &mut prints, seed, runs)?;
             print!("{report}");
             Ok(report.passed())
         }
         Task::Samples { out } => {
-            replay::write_samples(&oracle, &out)?;
+            replay::write_samples(&mut Published(oracle), &out)?;
             Ok(true)
         }
         Task::Record { out, check: false } => {

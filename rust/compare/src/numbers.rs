@@ -33,6 +33,10 @@ pub const JUDGING: [u32; 13] = [0, 3, 4, 5, 6, 7, 8, 9, 10, 11, 12, BAD_TABLE, B
 /// The numbers of the calls of a run: its region and its tables are sound.
 pub const RUNNING: [u32; 11] = [0, 3, 4, 5, 6, 7, 8, 9, 10, 11, 12];
 
+/// The numbers of the calls that `replay` runs: their region is sound, their
+/// tables may be anything.
+pub const REPLAYING: [u32; 12] = [0, 3, 4, 5, 6, 7, 8, 9, 10, 11, 12, BAD_TABLE];
+
 /// Each number and its name.
 const NAMES: [(u32, &str); 17] = [
     (0, "0 accepted"),

@@ -133,6 +133,15 @@ pub fn encode(actions: &[Action]) -> Vec<u8> {
     bytes
 }
 
+/// The bytes of a region whose rules never expire.
+pub fn lasting(rules: &[Rule]) -> Vec<u8> {
+    let never = |rule: &Rule| Action {
+        expires_at: 0,
+        rule: *rule,
+    };
+    encode(&rules.iter().map(never).collect::<Vec<_>>())
+}
+
 /// The actions of a region that is cut without rest into actions of known types
 /// and listed lengths, however many they are.
 pub fn cut(bytes: &[u8]) -> Option<Vec<Action>> {

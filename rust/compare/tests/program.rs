@@ -76,6 +76,8 @@ fn surplus_lines_and_a_failing_program_differ() {
 #[cfg_attr(not(oracle_sources), ignore)]
 fn a_program_that_is_not_there_is_an_error() {
     assert_eq!(status(&["run", "--vectors", "/no such program"]), Some(2));
+    assert_eq!(status(&["replay", "--program", "/no such one"]), Some(2));
+    assert_eq!(status(&["replay"]), Some(2));
 }
 
 #[test]

@@ -5,7 +5,7 @@ use oracle::Oracle;
 use crate::{
     calls::{self, Call},
     chance::Chance,
-    region::{self, Action, Recurring, Rule},
+    region::{lasting, Recurring, Rule},
     stream::{self, Entry, MAX_INSTRUCTIONS},
     subjects::{Published, Subject},
     table::{self, Record, AMOUNT, SPL_TOKEN, TOKEN_ACCOUNT},
@@ -205,13 +205,7 @@ fn accepted(chance: &mut Chance, shape: Shape) -> (Vec<u8>, Call) {
     let limits = (0..shape.limits).map(|at| limit(at / mints.len(), mints[at % mints.len()]));
     let others = (1..shape.lists).map(|_| Rule::ProgramWhitelist(chance.key()));
     let called = (shape.lists > 0).then(|| Rule::ProgramWhitelist(before[0].key));
-    let rules = limits.chain(others).chain(called);
-    let actions: Vec<Action> = rules
-        .map(|rule| Action {
-            expires_at: 0,
-            rule,
-        })
-        .collect();
+    let rules: Vec<Rule> = limits.chain(others).chain(called).collect();
     let call = Call {
         before: with_amount(1000),
         after: with_amount(990),
@@ -222,7 +216,7 @@ fn accepted(chance: &mut Chance, shape: Shape) -> (Vec<u8>, Call) {
         lamports_after: 990,
         gross: 10,
     };
-    (region::encode(&actions), call)
+    (lasting(&rules), call)
 }
 
 /// A limit of one of the three token types that the calls keep.

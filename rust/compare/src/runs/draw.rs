@@ -6,6 +6,7 @@ use crate::{
     chance::Chance,
     damage::damage,
     region,
+    replay::frame::MAX_PARTS,
     table::{self, Record, AMOUNT, TOKEN_ACCOUNT},
 };
 
@@ -20,7 +21,7 @@ pub fn draw(chance: &mut Chance) -> Run {
         fields.spent = 0;
         fields.last_reset = 0;
     }
-    if !first.is_readable() {
+    if first.parts_len() > MAX_PARTS {
         return draw(chance);
     }
     let count = match chance.one_in(8) {

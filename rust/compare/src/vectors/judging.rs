@@ -8,6 +8,7 @@ use crate::{
     calls::{self, Call},
     chance::Chance,
     numbers,
+    replay::frame::{opening, read_opening, Head, MAX_PARTS},
     subjects::{Published, Subject},
 };
 
@@ -31,48 +32,29 @@ pub fn nth(chance: &mut Chance, number: u64) -> Vec<u8> {
 fn draw(chance: &mut Chance) -> Vec<u8> {
     loop {
         let (region, call) = calls::draw(chance);
-        if call.is_readable() {
+        if call.parts_len() <= MAX_PARTS {
             return encode(&region, &call);
         }
     }
 }
 
 fn encode(region: &[u8], call: &Call) -> Vec<u8> {
-    let len = (region.len() as u16).to_le_bytes();
-    [&len[..], region, &call.encode()].concat()
+    [opening(region), call.encode()].concat()
 }
 
 fn decode(mut payload: Cursor) -> Option<(Vec<u8>, Call)> {
-    let len = u16::from_le_bytes(payload.array()?);
-    let region = payload.take(len.into())?.to_vec();
-    let numbers = [(); 4].map(|()| payload.u64());
-    let lengths = [(); 3].map(|()| payload.length());
-    let vault = payload.array()?;
-    let mut part = |len: Option<usize>| Some(payload.take(len?)?.to_vec());
-    let call = Call {
-        before: part(lengths[0])?,
-        after: part(lengths[1])?,
-        instructions: part(lengths[2])?,
-        vault,
-        slot: numbers[0]?,
-        lamports_before: numbers[1]?,
-        lamports_after: numbers[2]?,
-        gross: numbers[3]?,
-    };
+    let region = read_opening(&mut payload)?;
+    let call = Head::read(&mut payload)?.read_parts(&mut payload)?;
     Some((region, call))
 }
 
 #[cfg(test)]
 mod tests {
     use super::*;
-    use crate::region::{self, Action, Rule};
+    use crate::region::{lasting, Rule};
 
     /// A region of one limit on SOL, and a call that takes 7 of it.
     fn limited(remaining: u64) -> (Vec<u8>, Call) {
-        let limit = Action {
-            expires_at: 0,
-            rule: Rule::SolLimit(remaining),
-        };
         let call = Call {
             before: vec![0, 0],
             after: vec![0, 0],
@@ -83,7 +65,7 @@ mod tests {
             lamports_after: 3,
             gross: 7,
         };
-        (region::encode(&[limit]), call)
+        (lasting(&[Rule::SolLimit(remaining)]), call)
     }
 
     #[test]

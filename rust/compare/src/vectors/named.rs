@@ -5,7 +5,7 @@ use oracle::{Instruction, Part};
 
 use crate::{
     calls::Call,
-    region::{self, Action, Rule},
+    region::{lasting, Rule},
     table::{self, Record, MAX_RECORDS, SPL_TOKEN, TOKEN_2022, TOKEN_ACCOUNT},
     Key,
 };
@@ -111,7 +111,7 @@ pub fn calls() -> Vec<(&'static str, Vec<u8>, Call)> {
     let top = u64::MAX;
     let mut gone = call(&[whole(5, 5)]);
     gone.after = table_of(0);
-    let limit = |remaining| region(&[Rule::TokenLimit(MINT, remaining)]);
+    let limit = |remaining| lasting(&[Rule::TokenLimit(MINT, remaining)]);
     let both = [Rule::TokenLimit(MINT, 10), Rule::TokenMaxPerTx(MINT, 10)];
     vec![
         ("a balance over two accounts", limit(71), call(&two)),
@@ -143,7 +143,7 @@ pub fn calls() -> Vec<(&'static str, Vec<u8>, Call)> {
         ),
         (
             "TokenLimit and TokenMaxPerTx on one mint",
-            region(&both),
+            lasting(&both),
             call(&[whole(60, 50)]),
         ),
         ("an account gone after", limit(1), gone),
@@ -157,14 +157,6 @@ struct Account {
     len: usize,
     before: u64,
     after: u64,
-}
-
-fn region(rules: &[Rule]) -> Vec<u8> {
-    let never = |rule: &Rule| Action {
-        expires_at: 0,
-        rule: *rule,
-    };
-    region::encode(&rules.iter().map(never).collect::<Vec<_>>())
 }
 
 /// A call without instructions that moves the accounts' amounts.

@@ -1,8 +1,9 @@
 //! The runner is shown faulty subjects, each made of the published code by what
-//! it is handed, and has to find every fault. Here are those that document 01
-//! calls easy to make.
+//! it is handed, and faulty programs, and has to find every fault. Here are those
+//! that document 01 calls easy to make.
 
 mod others;
+mod replay;
 mod smallest;
 
 use std::collections::HashSet;
