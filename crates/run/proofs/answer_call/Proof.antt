@@ -1,8 +1,6 @@
 -- `run::answer_call` meets its contract, by what the bytes begin with.
 -- Assumes nothing.
-use mathlib.Core.Path.{_≡_, sym, _∙_}
-use Rattle.frame.specs.declared.Front.the-variants.{Long, Short}
-use Rattle.frame.specs.Frame.{frontOf}
+use mathlib.Core.Path.{sym, _∙_}
 use Rattle.run.proofs.Laws.{call-answered, call-stops, call-waits, region-answered, region-stops, region-waits}
 use borrow.Author.Needs.{needs}
 use Rattle.run.proofs.answer_call.Statement.{statement}
@@ -44,12 +42,12 @@ returns c =
 
 returns-2 : tie.Need-returns-2
 returns-2 c =
-    let front : frontOf (c .before .before .before .before .before .before .args .bytes .now) ≡ Long = cc in
+    let front = sym (c .before .before .before .read-call .ensures) ∙ c .before .enum-told .given .1 in
     (c .stopped .ensures ∙ sym (call-stops _ _ _ _ front), sym (region-stops _ _ front))
 
 returns-3 : tie.Need-returns-3
 returns-3 c =
-    let front : frontOf (c .before .before .before .before .before .before .args .bytes .now) ≡ Short = cc in
+    let front = sym (c .before .before .before .read-call .ensures) ∙ c .before .enum-told2 .given .1 in
     (c .waits .ensures ∙ sym (call-waits _ _ _ _ front), sym (region-waits _ _ front))
 
 pub answer-call-spec : {M : Type 1} → statement M
