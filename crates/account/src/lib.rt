@@ -4,7 +4,7 @@ use key::KEY_LENGTH;
 ghost use mathlib.Core.Path.{_≡_};
 ghost use Prim.Native.Nat.{_*_};
 ghost use lib.ListN.{getD, take, drop};
-ghost use Rattle.account.specs.Views.{partAt, recordAt, viewsOf, zeroView};
+ghost use Rattle.account.specs.Views.{partAt, recordAt, recordViews, zeroRecordView};
 
 pub const RECORD_HEADER_SIZE: usize = 68;
 
@@ -61,7 +61,7 @@ pub fn record_payload(table: &[u8], view: RecordView) -> &[u8]
 
 // The view at an index of a row of numbers, the zero view past the last.
 pub fn view_in(places: &[usize], i: usize) -> RecordView
-    ensures { λ r. ⌜ r ≡ getD (viewsOf (now (places .entry))) i zeroView ⌝ }
+    ensures { λ r. ⌜ r ≡ getD (recordViews (now (places .entry))) i zeroRecordView ⌝ }
 {
     if places.len() / 2 <= i {
         return RecordView { at: 0, len: 0 };

@@ -9,8 +9,8 @@ use Rattle.action.specs.declared.ActionView.{ActionView}
 use Rattle.action.specs.Action.{Action}
 
 -- what stands past the last view
-abbrev pub zeroView : ActionView
-zeroView = record { kind = 0; expires = 0; at = 0; len = 0 }
+abbrev pub zeroActionView : ActionView
+zeroActionView = record { kind = 0; expires = 0; at = 0; len = 0 }
 
 -- the data that a view names, or nothing where it passes the end
 unfoldable pub dataAt : List ℕ → ActionView → List ℕ

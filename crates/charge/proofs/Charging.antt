@@ -14,10 +14,10 @@ use Rattle.answer.specs.Numbers.{answer, accepted, accepts}
 use Rattle.answer.proofs.Laws.{first-passes, first-refuses, no-rule}
 use Rattle.action.specs.declared.ActionView.{ActionView}
 use Rattle.action.specs.Action.{Action}
-use Rattle.action.specs.Views.{zeroView, actionAt, writtenAt}
+use Rattle.action.specs.Views.{zeroActionView, actionAt, writtenAt}
 use Rattle.change.specs.declared.Change.{Change}
 use Rattle.change.specs.Changed.{changed}
-use Rattle.row.specs.Row.{viewsOf, actionsIn}
+use Rattle.row.specs.Views.{actionViews, actionsIn}
 use Rattle.row.proofs.Views.{actions-step, length-actions}
 use Rattle.limit.specs.Limit.{Charge, ruleAnswer, changeOf, settled}
 use Rattle.charge.specs.Classes.{ofClass, classAnswer}
@@ -68,7 +68,7 @@ abbrev pub oneAnswer : Bool → ℕ → Charge → Answer
 oneAnswer tokens slot c = cond (ofClass tokens (c .act .kind)) (ruleAnswer slot c) (answer accepted)
 
 module _ (tokens : Bool) (slot : ℕ) (s row amounts : List ℕ) (i : ℕ) where
-  module _ (v : ActionView) (here : v ≡ getD (viewsOf row) i zeroView) (h : i < length (viewsOf row)) (hx : i < length amounts) where
+  module _ (v : ActionView) (here : v ≡ getD (actionViews row) i zeroActionView) (h : i < length (actionViews row)) (hx : i < length amounts) where
     charge : Charge
     charge = record { act = actionAt s v; amount = getD amounts i 0 }
 
@@ -76,8 +76,8 @@ module _ (tokens : Bool) (slot : ℕ) (s row amounts : List ℕ) (i : ℕ) where
     unfolding chargesAt charges charge
     charge-step =
         drop-charges i (actionsIn s row) amounts
-        ∙ rw (here, actions-step s row i zeroView h, drop-cons amounts i 0 hx)
-        (ap (λ (l : List Charge). record { act = actionAt s (getD (viewsOf row) i zeroView); amount = getD amounts i 0 } ∷ l) (sym (drop-charges (suc i) (actionsIn s row) amounts)))
+        ∙ rw (here, actions-step s row i zeroActionView h, drop-cons amounts i 0 hx)
+        (ap (λ (l : List Charge). record { act = actionAt s (getD (actionViews row) i zeroActionView); amount = getD amounts i 0 } ∷ l) (sym (drop-charges (suc i) (actionsIn s row) amounts)))
 
     pub class-refused : (a : Answer) → a ≡ oneAnswer tokens slot (record { act = actionAt s v; amount = getD amounts i 0 }) → accepts a ≡ false
         → classAnswer tokens slot (drop i (chargesAt s row amounts)) ≡ a
@@ -89,7 +89,7 @@ module _ (tokens : Bool) (slot : ℕ) (s row amounts : List ℕ) (i : ℕ) where
     unfolding classAnswer charge
     class-passed a e h = rw (charge-step, ← e) (first-passes a _ h)
 
-  pub class-end : min (length (viewsOf row)) (length amounts) ≤ i → classAnswer tokens slot (drop i (chargesAt s row amounts)) ≡ answer accepted
+  pub class-end : min (length (actionViews row)) (length amounts) ≤ i → classAnswer tokens slot (drop i (chargesAt s row amounts)) ≡ answer accepted
   unfolding classAnswer chargesAt
   class-end past = rw (drop-charges i (actionsIn s row) amounts, none-charged _ _ past-one) no-rule
     where
@@ -99,16 +99,16 @@ module _ (tokens : Bool) (slot : ℕ) (s row amounts : List ℕ) (i : ℕ) where
 -- ---- settling
 
 module _ (slot : ℕ) (row amounts : List ℕ) (i : ℕ) (s : List ℕ) where
-  pub settle-step : (v : ActionView) (change : Change) → v ≡ getD (viewsOf row) i zeroView → i < length (viewsOf row) → i < length amounts
+  pub settle-step : (v : ActionView) (change : Change) → v ≡ getD (actionViews row) i zeroActionView → i < length (actionViews row) → i < length amounts
       → change ≡ changeOf slot (record { act = actionAt s v; amount = getD amounts i 0 })
-      → settledViews slot (drop i (viewsOf row)) (drop i amounts) s
-      ≡ settledViews slot (drop (suc i) (viewsOf row)) (drop (suc i) amounts) (writtenAt s v (changed change (actionAt s v)))
+      → settledViews slot (drop i (actionViews row)) (drop i amounts) s
+      ≡ settledViews slot (drop (suc i) (actionViews row)) (drop (suc i) amounts) (writtenAt s v (changed change (actionAt s v)))
   unfolding settledViews settled
-  settle-step v change here h hx e = rw (e, here, drop-cons (viewsOf row) i zeroView h, drop-cons amounts i 0 hx)
+  settle-step v change here h hx e = rw (e, here, drop-cons (actionViews row) i zeroActionView h, drop-cons amounts i 0 hx)
 
-  pub settle-end : min (length (viewsOf row)) (length amounts) ≤ i → settledViews slot (drop i (viewsOf row)) (drop i amounts) s ≡ s
-  settle-end past = none-settled slot _ _ s (none-left (viewsOf row) amounts i past)
+  pub settle-end : min (length (actionViews row)) (length amounts) ≤ i → settledViews slot (drop i (actionViews row)) (drop i amounts) s ≡ s
+  settle-end past = none-settled slot _ _ s (none-left (actionViews row) amounts i past)
 
-pub settle-all : (slot : ℕ) (row amounts s : List ℕ) → settledAt slot row amounts s ≡ settledViews slot (viewsOf row) amounts s
+pub settle-all : (slot : ℕ) (row amounts s : List ℕ) → settledAt slot row amounts s ≡ settledViews slot (actionViews row) amounts s
 unfolding settledAt
 settle-all slot row amounts s = refl

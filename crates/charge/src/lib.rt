@@ -18,7 +18,7 @@ ghost use Rattle.answer.specs.Numbers.{answer, accepted};
 ghost use Prim.Native.Nat.{min};
 ghost use lib.ListN.{length};
 ghost use Rattle.action.specs.Views.{actionAt};
-ghost use Rattle.row.specs.Row.{viewsOf};
+ghost use Rattle.row.specs.Views.{actionViews};
 ghost use Rattle.limit.specs.Limit.{ruleAnswer};
 ghost use Rattle.charge.specs.Classes.{isSol, ofClass, classAnswer};
 ghost use Rattle.charge.specs.Views.{chargesAt, settledAt};
@@ -52,7 +52,7 @@ fn class_rule(region: &[u8], view: ActionView, tokens: bool, slot: u64, amount: 
 
 // How many actions of a row there is an amount for.
 fn charged(actions: &[u64], amounts: &[u64]) -> usize
-    ensures { λ r. ⌜ r ≡ min (length (viewsOf (now (actions .entry)))) (length (now (amounts .entry))) ⌝ }
+    ensures { λ r. ⌜ r ≡ min (length (actionViews (now (actions .entry)))) (length (now (amounts .entry))) ⌝ }
 {
     let n = how_many(actions);
     if n < amounts.len() { n } else { amounts.len() }

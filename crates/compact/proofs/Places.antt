@@ -10,7 +10,7 @@ use Rattle.number.specs.Number.{bytesOf}
 use Rattle.number.proofs.Laws.{length-bytesOf}
 use Rattle.compact.specs.declared.Entry.{Entry}
 use Rattle.compact.specs.Compact.{Instruction, mostInstructions, encodeOne, encodeEach, encode}
-use Rattle.compact.specs.Views.{part, meant, placedOne, placed, zeroEntry, entriesOf, entriesIn, listOf}
+use Rattle.compact.specs.Views.{part, meant, entryAt, entriesFrom, zeroEntry, entriesOf, entriesIn, listOf}
 use Rattle.compact.proofs.Parts.{part-at}
 
 pub entries-held : (es : List Entry) → entriesIn (entriesOf es) ≡ es
@@ -37,8 +37,8 @@ module _ (before : List ℕ) (i : Instruction) (rest : List ℕ) where
       let long : length first ≡ at = simp (length-append, length-bytesOf) (omega arith) in
       ap (λ (s : List ℕ). take (length (i .payload)) (drop at s)) split ∙ part-at first (i .payload) rest at (length (i .payload)) long refl
 
-  one-means : meant (before ++ (encodeOne i ++ rest)) (placedOne (length before) i) ≡ i
-  unfolding meant part placedOne
+  one-means : meant (before ++ (encodeOne i ++ rest)) (entryAt (length before) i) ≡ i
+  unfolding meant part entryAt
   one-means =
       ap₂ {C = Instruction} (λ (a p : List ℕ). record { program = i .program; accounts = a; payload = p }) accounts-lie payload-lies
 
@@ -52,8 +52,8 @@ pub after : (before : List ℕ) (i : Instruction) (is : List Instruction) (rest 
     → before ++ (encodeEach (i ∷ is) ++ rest) ≡ before ++ encodeOne i ++ (encodeEach is ++ rest)
 after before i is rest = here before i is rest ∙ sym (append-assoc before (encodeOne i) (encodeEach is ++ rest))
 
-pub each-means : (before : List ℕ) (is : List Instruction) (rest : List ℕ) → map (meant (before ++ (encodeEach is ++ rest))) (placed (length before) is) ≡ is
-unfolding placed
+pub each-means : (before : List ℕ) (is : List Instruction) (rest : List ℕ) → map (meant (before ++ (encodeEach is ++ rest))) (entriesFrom (length before) is) ≡ is
+unfolding entriesFrom
 each-means before [] rest = refl
 each-means before (i ∷ is) rest =
     ap₂ _∷_ (rw (here before i is rest) (one-means before i (encodeEach is ++ rest)))
@@ -61,6 +61,6 @@ each-means before (i ∷ is) rest =
 
 -- the entries of a list whose encoding lies at the front of some bytes
 module _ (is : List Instruction) (rest : List ℕ) where
-  pub encoded-means : listOf (encode is ++ rest) (entriesOf (placed 1 is)) ≡ is
+  pub encoded-means : listOf (encode is ++ rest) (entriesOf (entriesFrom 1 is)) ≡ is
   unfolding listOf encode
-  encoded-means = rw (entries-held (placed 1 is)) (each-means (length is ∷ []) is rest)
+  encoded-means = rw (entries-held (entriesFrom 1 is)) (each-means (length is ∷ []) is rest)

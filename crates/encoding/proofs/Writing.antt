@@ -22,7 +22,8 @@ use Rattle.compact.proofs.Parts.{length-part}
 use Rattle.compact.proofs.Format.{length-encodeOne}
 use Rattle.encoding.specs.declared.Size.{Size}
 use Rattle.encoding.specs.declared.Size.the-variants.{Of, NotEncodable}
-use Rattle.encoding.specs.Encoding.{encodableOne, encodableEach, encodable, writingAnswer, writing, outputAfter, sizeIf}
+use Rattle.encoding.specs.Encoding.{encodableOne, encodableEach, encodable, writingAnswer, writing, outputAfter}
+use Rattle.encoding.specs.Views.{sizeIf}
 
 pub and-false : (t : Bool) → (t && false) ≡ false
 and-false true = refl

@@ -15,7 +15,7 @@ ghost use mathlib.Core.List.{List};
 ghost use Prim.Native.Nat.{ℕ};
 ghost use lib.ListN.{take, drop};
 ghost use Rattle.key.specs.Key.{sameKey};
-ghost use Rattle.keys.specs.Keys.{isAmong, keysIn};
+ghost use Rattle.keys.specs.Views.{isAmong, keysIn};
 ghost use Rattle.account.specs.Views.{recordAt, recordsIn};
 ghost use Rattle.freeze.specs.Freeze.{firstWithKey, samePart, sameAuthorities, isStill, isFoundStill, keepsFreeze, allFrozen};
 

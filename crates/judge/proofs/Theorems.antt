@@ -32,7 +32,7 @@ use Rattle.charge.specs.Classes.{ofClass, classAnswer}
 use Rattle.charge.proofs.Accepting.{EachKept, each-kept}
 use Rattle.programs.specs.Programs.{inLiveList, listsAnswer, programAnswer, programsAnswer}
 use Rattle.freeze.specs.Freeze.{allFrozen}
-use Rattle.judge.specs.Judge.{Call, answerOf, recordsBefore, recordsAfter, programsOf, readAnswer, actionsOf, amountFor, charged, soundness, rules, steps, judged, regionAfter}
+use Rattle.judge.specs.Judge.{Call, answerOf, recordsBefore, recordsAfter, programIndexes, instructionsAnswer, actionsOf, amountFor, charged, soundness, rules, steps, judged, regionAfter}
 use Rattle.judge.proofs.Steps.{refused-keeps, stored-refusal}
 
 -- a refusal leaves the region as it was
@@ -113,7 +113,7 @@ module _ (most : ℕ) (enough : 13 ≤ most) where
       go (given l) e = omega arith
       go (refused r) e = subst Listed (sym (every-refusal-of-a-table-is-13 s r e)) (omega arith)
 
-  read-listed : (o : Option (Read (List Instruction))) → Listed (readAnswer o)
+  read-listed : (o : Option (Read (List Instruction))) → Listed (instructionsAnswer o)
   read-listed none = omega arith
   read-listed (some d) = omega arith
 
@@ -124,7 +124,7 @@ module _ (most : ℕ) (enough : 13 ≤ most) where
     where
       ruled : (l : List Action) → AllListed (elim l [ [] ↦ [] | a ∷ k ↦ rules call (a ∷ k) ])
       ruled [] = tt
-      ruled (a ∷ k) = (programs-listed (call .slot) (a ∷ k) (recordsBefore call) (programsOf (decode (call .instructions))), (rule-listed (not (allFrozen (call .vault) (λ (mint : List ℕ). isListed mint (a ∷ k)) (recordsAfter call) (recordsBefore call))) 12 (omega arith), (class-listed false (call .slot) (charged call (a ∷ k)), (class-listed true (call .slot) (charged call (a ∷ k)), tt))))
+      ruled (a ∷ k) = (programs-listed (call .slot) (a ∷ k) (recordsBefore call) (programIndexes (decode (call .instructions))), (rule-listed (not (allFrozen (call .vault) (λ (mint : List ℕ). isListed mint (a ∷ k)) (recordsAfter call) (recordsBefore call))) 12 (omega arith), (class-listed false (call .slot) (charged call (a ∷ k)), (class-listed true (call .slot) (charged call (a ∷ k)), tt))))
 
   answer-listed : (region : List ℕ) (call : Call) → Listed (answerOf (storedActions region)) → Listed (judged region call)
   unfolding judged

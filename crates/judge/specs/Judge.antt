@@ -60,14 +60,14 @@ unfoldable pub recordsAfter : Call → List Record
 recordsAfter call = recordsOf (cutTable (call .after))
 
 -- the program indexes of a list that was read, none where there is no list
-abbrev pub programsOf : Option (Read (List Instruction)) → List ℕ
-programsOf none = []
-programsOf (some d) = map (λ (i : Instruction). i .program) (d .value)
+abbrev pub programIndexes : Option (Read (List Instruction)) → List ℕ
+programIndexes none = []
+programIndexes (some d) = map (λ (i : Instruction). i .program) (d .value)
 
 -- the answer to reading the instructions
-abbrev pub readAnswer : Option (Read (List Instruction)) → Answer
-readAnswer none = answer invalidInstructionData
-readAnswer (some d) = answer accepted
+abbrev pub instructionsAnswer : Option (Read (List Instruction)) → Answer
+instructionsAnswer none = answer invalidInstructionData
+instructionsAnswer (some d) = answer accepted
 
 -- the actions of a region, none where it is not in stored form
 abbrev pub actionsOf : Refusable (List Action) → List Action
@@ -91,7 +91,7 @@ soundness region call =
     refuseIf (not (eqb (length (call .vault)) keyLength)) badTable
     ∷ answerOf (cutTable (call .before))
     ∷ answerOf (cutTable (call .after))
-    ∷ readAnswer (decode (call .instructions))
+    ∷ instructionsAnswer (decode (call .instructions))
     ∷ answerOf (storedActions region)
     ∷ []
 
@@ -99,7 +99,7 @@ soundness region call =
 unfoldable pub rules : Call → List Action → List Answer
 unfolding charged recordsBefore recordsAfter
 rules call l =
-    programsAnswer (call .slot) l (recordsBefore call) (programsOf (decode (call .instructions)))
+    programsAnswer (call .slot) l (recordsBefore call) (programIndexes (decode (call .instructions)))
     ∷ refuseIf (not (allFrozen (call .vault) (λ (mint : List ℕ). isListed mint l) (recordsAfter call) (recordsBefore call))) sessionTokenAuthorityChanged
     ∷ classAnswer false (call .slot) (charged call l)
     ∷ classAnswer true (call .slot) (charged call l)

@@ -6,9 +6,9 @@ use mathlib.Core.List.{List, [], _∷_}
 use Rattle.answer.specs.declared.Answer.{Answer}
 use Rattle.answer.specs.Numbers.{answer, accepted, firstRefusal, refuseIf, sessionTokenAuthorityChanged}
 use Rattle.keys.specs.declared.Keys.{Keys}
-use Rattle.keys.specs.Keys.{isAmong, keysIn}
+use Rattle.keys.specs.Views.{isAmong, keysIn}
 use Rattle.action.specs.Action.{Action}
-use Rattle.mints.specs.Mints.{listedMints}
+use Rattle.mints.specs.Views.{listedMints}
 use Rattle.account.specs.Record.{Record}
 use Rattle.limit.specs.Limit.{Charge}
 use Rattle.charge.specs.Classes.{classAnswer}

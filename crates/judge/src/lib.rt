@@ -25,7 +25,7 @@ ghost use mathlib.Core.Bool.{true, cond};
 ghost use mathlib.Core.List.{map};
 ghost use lib.ListN.{length};
 ghost use Rattle.answer.specs.Numbers.{accepts};
-ghost use Rattle.row.specs.Row.{actionsIn};
+ghost use Rattle.row.specs.Views.{actionsIn};
 ghost use Rattle.account.specs.Views.{recordsIn};
 ghost use Rattle.table.specs.Table.{cutTable, recordsOf};
 ghost use Rattle.balance.specs.Views.{sumsOf};
