@@ -5,8 +5,9 @@ use mathlib.Core.Bool.{Bool}
 use mathlib.Core.List.{List, [], _∷_, _++_, map}
 use mathlib.Core.Option.{Option, none, some}
 use lib.Dec.{leb}
-use lib.ListN.{length, take, drop, replicate}
+use lib.ListN.{length, take, replicate}
 use Rattle.answer.specs.Numbers.{answer, accepted, invalidInstructionData}
+use Rattle.part.specs.Part.{partAt}
 use Rattle.compact.specs.declared.Range.{Range}
 use Rattle.compact.specs.declared.Entry.{Entry}
 use Rattle.compact.specs.declared.Entries.{Entries}
@@ -16,9 +17,9 @@ use Rattle.compact.specs.declared.Head.{Head}
 use Rattle.compact.specs.declared.Head.the-variants.{At, Short}
 use Rattle.compact.specs.Compact.{Instruction, Read, mostInstructions, encodeOne, decode}
 
--- the bytes of a source that a range names
-unfoldable pub part : List ℕ → Range → List ℕ
-part source r = take (r .len) (drop (r .start) source)
+-- the bytes of a source that a range names, nothing where they are not all there
+abbrev pub rangeBytes : List ℕ → Range → List ℕ
+rangeBytes source r = partAt source (r .start) (r .len)
 
 -- whether a range lies within a source: its start plus its length does not pass the end
 unfoldable pub within : List ℕ → Range → Bool
@@ -26,7 +27,7 @@ within source r = leb (r .start + r .len) (length source)
 
 -- the instruction that an entry means over a source
 unfoldable pub meant : List ℕ → Entry → Instruction
-meant source e = record { program = e .program; accounts = part source (e .accounts); payload = part source (e .payload) }
+meant source e = record { program = e .program; accounts = rangeBytes source (e .accounts); payload = rangeBytes source (e .payload) }
 
 -- the entry of an instruction whose encoding begins at a place
 unfoldable pub entryAt : ℕ → Instruction → Entry

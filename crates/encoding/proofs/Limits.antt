@@ -9,10 +9,11 @@ use borrow.Author.Tests.{le-leb, leb-true}
 use lib.Dec.{leb}
 use lib.ListN.{length, length-append, length-take, length-map}
 use Rattle.answer.specs.Each.{Each}
+use Rattle.part.proofs.Laws.{length-part-there}
 use Rattle.compact.specs.declared.Entry.{Entry}
 use Rattle.compact.specs.declared.Entries.{Entries}
 use Rattle.compact.specs.Compact.{Instruction, WritableOne, mostInstructions, mostAccounts, mostPayload, encodeOne, encodeEach, encode}
-use Rattle.compact.specs.Views.{part, meant, entryAt, entriesFrom, entriesOf, entriesIn, listOf, within}
+use Rattle.compact.specs.Views.{meant, entryAt, entriesFrom, entriesOf, entriesIn, listOf, within}
 use Rattle.compact.proofs.Format.{length-encodeOne}
 use Rattle.compact.proofs.Reading.{length-placed}
 use Rattle.compact.proofs.Places.{entries-held, here, after}
@@ -61,13 +62,13 @@ encoded-keeps is rest few h =
 -- an entry that keeps the limits means an instruction whose data is no longer than they say
 meant-short : (source : List ℕ) (es : List Entry) → encodableEach source es ≡ true
     → Each (λ (i : Instruction). length (i .payload) ≤ mostPayload) (map (meant source) es)
-unfolding encodableEach meant part
+unfolding encodableEach meant
 meant-short source [] h = tt
 meant-short source (e ∷ es) h =
     let this = encodableOne source e in
     let those = encodableEach source es in
     let k = keeps source e (and-left this those h) in
-    (rw length-take (omega (arith, k .short)), meant-short source es (and-right this those h))
+    (rw (length-part-there source (e .payload .start) (e .payload .len) (k .payload)) (k .short), meant-short source es (and-right this those h))
 
 pub encodable-means : (source : List ℕ) (l : Entries) → encodable source l ≡ true
     → (length (listOf source l) ≤ mostInstructions) × Each (λ (i : Instruction). length (i .payload) ≤ mostPayload) (listOf source l)

@@ -4,12 +4,10 @@ use mathlib.Core.Path.{_≡_, refl, sym, ap, _∙_}
 use mathlib.Core.Bool.{Bool, true, false, not, _&&_, _||_, and-false}
 use mathlib.Core.List.{List, [], _∷_}
 use mathlib.Core.Option.{some}
-use Prim.Native.Nat.{ℕ, suc, _-_, _/_, _<_, _≤_, min}
-use native.Mathlib.Omega.{arith}
-use lib.ListN.{length, getD, take, drop, length-drop, drop-of-length-le}
-use lib.Seq.{take-all, take-nil}
+use Prim.Native.Nat.{ℕ, suc, _/_, _<_, _≤_, min}
+use lib.ListN.{length, getD, drop, drop-of-length-le}
 use Rattle.key.specs.declared.Key.{Key}
-use Rattle.key.specs.Key.{sameKey, sameBytes}
+use Rattle.key.specs.Key.{sameKey}
 use Rattle.keys.specs.declared.Keys.{Keys}
 use Rattle.keys.specs.Views.{isAmong, keysIn}
 use Rattle.keys.proofs.Laws.{keys-step, keys-end}
@@ -19,23 +17,6 @@ use Rattle.account.specs.Views.{recordAt, recordViews, recordsIn, zeroRecordVie
 use Rattle.account.proofs.Views.{records-step, length-records}
 use Rattle.token.specs.Tokens.{isTokenAccount, isCounted, mintOf}
 use Rattle.freeze.specs.Freeze.{firstWithKey, samePart, sameAuthorities, isStill, isFoundStill, keepsFreeze, allFrozen}
-
--- ---- parts
-
-pub part-none : (s : List ℕ) (at size : ℕ) → length s < at → [] ≡ take size (drop at s)
-part-none s at size h =
-    let past : length s ≤ at = omega arith in
-    sym (ap (take size) (drop-of-length-le s past) ∙ take-nil size)
-
-pub part-short : (s : List ℕ) (at size : ℕ) → at ≤ length s → length s - at < size → take (length s - at) (drop at s) ≡ take size (drop at s)
-part-short s at size h short =
-    let long : length (drop at s) ≤ length s - at = rw (length-drop at s) (omega arith) in
-    let small : length (drop at s) ≤ size = rw (length-drop at s) (omega arith) in
-    take-all (length s - at) (drop at s) long ∙ sym (take-all size (drop at s) small)
-
-pub part-compared : (at size : ℕ) (p q a b : List ℕ) → a ≡ take size (drop at p) → b ≡ take size (drop at q) → sameBytes a b ≡ samePart at size p q
-unfolding samePart
-part-compared at size p q a b pa qb = rw (← pa, ← qb)
 
 -- ---- authorities
 

@@ -12,7 +12,7 @@ use lib.Dec.{ltb}
 use Rattle.answer.specs.Numbers.{accepts, refuseIf, invalidInstructionData}
 use Rattle.compact.specs.declared.Range.{Range}
 use Rattle.compact.specs.declared.Entry.{Entry}
-use Rattle.compact.specs.Views.{within, part}
+use Rattle.compact.specs.Views.{within, rangeBytes}
 use Rattle.account.specs.declared.RecordView.{RecordView}
 use Rattle.account.specs.Record.{Record}
 use Rattle.account.specs.Views.{recordAt, recordViews, recordsIn}
@@ -88,7 +88,7 @@ module _ (count : ℕ) (source : List ℕ) (e : Entry) where
   program-past-the-count h = rw (le-ltb _ _ h, and-false)
 
   pub accounts-decide : within source (e .accounts) ≡ true → within source (e .payload) ≡ true → e .program < count
-      → resolvable count source e ≡ allBelow count (part source (e .accounts))
+      → resolvable count source e ≡ allBelow count (rangeBytes source (e .accounts))
   unfolding resolvable
   accounts-decide ha hp h = rw (ha, hp, lt-ltb _ _ h)
 

@@ -9,9 +9,9 @@ use lib.Seq.{drop-drop, take-at}
 use Rattle.answer.specs.declared.Answer.{Answer}
 use Rattle.answer.specs.Numbers.{answer, actionBufferInvalid}
 use Rattle.answer.specs.Refusable.{Refusable, given, refused, change}
+use Rattle.part.proofs.Laws.{part-there}
 use Rattle.action.specs.Action.{Action}
 use Rattle.action.specs.Views.{zeroActionView, dataAt, actionAt}
-use Rattle.action.proofs.Views.{data-there}
 use Rattle.action.proofs.Lengths.{known-code}
 use Rattle.row.specs.Views.{actionViews, actionRow, actionsIn}
 use Rattle.row.proofs.InRow.{row-front}
@@ -78,7 +78,7 @@ act-there : (s : List ℕ) (place : ℕ) (f : First) → place ≤ length s → 
 unfolding actionAt actionViewAt
 act-there s place f h facts =
     let inside = rw (length-drop place s) at (facts .within) in
-    let there = data-there s (actionViewAt place (f .act)) (omega arith) in
+    let there = part-there s (place + 11) (length (f .act .payload)) (omega arith) in
     let payload : dataAt s (actionViewAt place (f .act)) ≡ f .act .payload = there ∙ rw (← (drop-drop 11 place s)) (sym (facts .payload-is)) in
     ap (λ (b : List ℕ). record { kind = f .act .kind; expires = f .act .expires; payload = b }) payload
 

@@ -12,11 +12,11 @@ use Rattle.answer.proofs.Each.{each-so}
 use Rattle.answer.specs.Refusable.{given}
 use Rattle.number.specs.Number.{number, bytesOf, Bytes}
 use Rattle.number.proofs.Laws.{bytesOf-number, number-bytesOf, length-bytesOf, bytes-take, bytes-drop, bytes-append, bytesOf-bytes}
+use Rattle.part.proofs.Laws.{part-there}
 use Rattle.action.specs.Action.{Action, dataLength}
 use Rattle.action.specs.Views.{dataAt, actionAt, writtenAt}
 use Rattle.action.proofs.Regular.{Regular}
 use Rattle.action.proofs.Lengths.{known-code, data-at-most}
-use Rattle.action.proofs.Views.{data-there}
 use Rattle.region.specs.Region.{First, first, cut, glueOne, glue, headerDataLength}
 use Rattle.region.specs.Views.{actionViewAt}
 use Rattle.region.proofs.Cutting.{IsFirst, first-given, cut-end, cut-first}
@@ -152,7 +152,7 @@ module _ (l : List Action) (a : Action) (m : List Action) where
   pub glued-action : actionAt (glue (l ++ (a ∷ m))) (actionViewAt (length (glue l)) a) ≡ a
   unfolding actionAt actionViewAt
   glued-action =
-      let there = data-there (glue (l ++ (a ∷ m))) (actionViewAt (length (glue l)) a) within-glued in
+      let there = part-there (glue (l ++ (a ∷ m))) (length (glue l) + 11) (length (a .payload)) within-glued in
       let payload : dataAt (glue (l ++ (a ∷ m))) (actionViewAt (length (glue l)) a) ≡ a .payload =
       there ∙ ap (take (length (a .payload))) from-data ∙ take-at (a .payload) (glue m) _ refl in
       ap (λ (p : List ℕ). record { kind = a .kind; expires = a .expires; payload = p }) payload

@@ -9,9 +9,10 @@ use lib.ListN.{length, take, drop, replicate}
 use lib.Seq.{drop-drop, take-at}
 use Rattle.answer.specs.Numbers.{accepts}
 use Rattle.answer.specs.Refusable.{Refusable, given, refused}
+use Rattle.part.specs.Part.{partAt}
+use Rattle.part.proofs.Laws.{part-there}
 use Rattle.account.specs.Record.{Record}
-use Rattle.account.specs.Views.{partAt, recordAt, recordViews, recordRow, recordsIn}
-use Rattle.account.proofs.Parts.{part-there}
+use Rattle.account.specs.Views.{recordAt, recordViews, recordRow, recordsIn}
 use Rattle.account.proofs.InRow.{views-of-row, length-row}
 use Rattle.table.specs.declared.Places.{Places}
 use Rattle.table.specs.Table.{FirstRecord, cutRecords, cutTable, recordsOf}
