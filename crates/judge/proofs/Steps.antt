@@ -46,6 +46,7 @@ use Rattle.table.specs.Views.{placesOf}
 use Rattle.table.proofs.Views.{records-of-places}
 use Rattle.balance.specs.Views.{sumsOf}
 use Rattle.limit.specs.Limit.{Charge, settled}
+use Rattle.charge.specs.declared.Class.the-variants.{Sol, Tokens}
 use Rattle.charge.specs.Classes.{classAnswer}
 use Rattle.charge.specs.Views.{charges, chargesAt, settledAt}
 use Rattle.charge.proofs.Charging.{charges-map, settle-end, settle-all}
@@ -74,11 +75,11 @@ module _ (slot : ℕ) (vault : List ℕ) (before after : List Record) (programs 
     checks-passed f = first-passes _ _ e ∙ rule-holds _ _ _ (ap not f) ∙ no-rule
 
 module _ (slot : ℕ) (cs : List Charge) where
-  pub limits-refused : accepts (classAnswer false slot cs) ≡ false → limitsFrom slot cs ≡ classAnswer false slot cs
+  pub limits-refused : accepts (classAnswer Sol slot cs) ≡ false → limitsFrom slot cs ≡ classAnswer Sol slot cs
   unfolding limitsFrom
   limits-refused e = first-refuses _ _ e
 
-  pub limits-decided : accepts (classAnswer false slot cs) ≡ true → limitsFrom slot cs ≡ classAnswer true slot cs
+  pub limits-decided : accepts (classAnswer Sol slot cs) ≡ true → limitsFrom slot cs ≡ classAnswer Tokens slot cs
   unfolding limitsFrom
   limits-decided e = first-passes _ _ e ∙ only _
 
@@ -234,7 +235,7 @@ module _ (call : Call) where
       let programs = programsAnswer (call .slot) l (recordsBefore call) (programIndexes (decode (call .instructions))) in
       let freeze = refuseIf (not (allFrozen (call .vault) (λ (mint : List ℕ). isListed mint l) (recordsAfter call) (recordsBefore call))) sessionTokenAuthorityChanged in
       rw e
-      (sym (first-append (programs ∷ freeze ∷ []) (classAnswer false (call .slot) (charged call l) ∷ classAnswer true (call .slot) (charged call l) ∷ [])))
+      (sym (first-append (programs ∷ freeze ∷ []) (classAnswer Sol (call .slot) (charged call l) ∷ classAnswer Tokens (call .slot) (charged call l) ∷ [])))
 
 -- ---- a region in stored form
 

@@ -1,7 +1,7 @@
 -- The judged call: nine steps, the first failure decides, and only an accepted call writes.
 -- Assumes nothing.
 use Prim.Native.Nat.{ℕ}
-use mathlib.Core.Bool.{true, false, not, cond}
+use mathlib.Core.Bool.{not, cond}
 use mathlib.Core.List.{List, [], _∷_, _++_, map}
 use mathlib.Core.Option.{Option, none, some}
 use lib.Dec.{eqb}
@@ -18,6 +18,7 @@ use Rattle.compact.specs.Compact.{Instruction, Read, decode}
 use Rattle.account.specs.Record.{Record}
 use Rattle.table.specs.Table.{cutTable, recordsOf}
 use Rattle.limit.specs.Limit.{Charge, settled}
+use Rattle.charge.specs.declared.Class.the-variants.{Sol, Tokens}
 use Rattle.charge.specs.Classes.{classAnswer}
 use Rattle.programs.specs.Programs.{programsAnswer}
 use Rattle.freeze.specs.Freeze.{allFrozen}
@@ -101,8 +102,8 @@ unfolding charged recordsBefore recordsAfter
 rules call l =
     programsAnswer (call .slot) l (recordsBefore call) (programIndexes (decode (call .instructions)))
     ∷ refuseIf (not (allFrozen (call .vault) (λ (mint : List ℕ). isListed mint l) (recordsAfter call) (recordsBefore call))) sessionTokenAuthorityChanged
-    ∷ classAnswer false (call .slot) (charged call l)
-    ∷ classAnswer true (call .slot) (charged call l)
+    ∷ classAnswer Sol (call .slot) (charged call l)
+    ∷ classAnswer Tokens (call .slot) (charged call l)
     ∷ []
 
 -- the steps of a judged call; step 4: an empty region has none of the rules
