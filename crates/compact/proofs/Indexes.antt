@@ -6,10 +6,11 @@ use mathlib.Core.List.{List, [], _∷_, map}
 use lib.ListN.{length, getD, take, drop, set, replicate}
 use Rattle.answer.specs.Numbers.{answer, accepted}
 use Rattle.compact.specs.declared.Entry.{Entry}
+use Rattle.compact.specs.declared.Entries.{Entries}
 use Rattle.compact.specs.declared.ParsedInstructions.{ParsedInstructions}
 use Rattle.compact.specs.declared.Head.the-variants.{At}
 use Rattle.compact.specs.Compact.{mostInstructions, decodeOne}
-use Rattle.compact.specs.Views.{zeroEntry, entriesOf, reading, entriesIn, programsIn, parsedPrograms, headOf}
+use Rattle.compact.specs.Views.{zeroEntry, entriesOf, reading, entriesIn, parsedPrograms, headOf}
 use Rattle.compact.proofs.Reading.{ReadSoFar, read-none, read-all, read-one}
 
 abbrev indexesOf : List Entry → List ℕ
@@ -51,6 +52,10 @@ module _ {bytes : List ℕ} {count : ℕ} {list : List ℕ} {at i : ℕ} (far : 
       }
 
 -- the counted indexes are those of the entries that the list holds
+-- the program indexes of the entries that a list holds
+unfoldable pub programsIn : Entries → List ℕ
+programsIn entries = indexesOf (entriesIn entries)
+
 pub programs-counted : (p : ParsedInstructions) → take (parsedPrograms p .count) (parsedPrograms p .list) ≡ programsIn (p .entries)
 unfolding parsedPrograms programsIn entriesIn
 programs-counted p = take-indexes (p .entries .count) (p .entries .list)

@@ -71,10 +71,6 @@ entriesIn l = take (l .count) (l .list)
 unfoldable pub listOf : List ℕ → Entries → List Instruction
 listOf source l = map (meant source) (entriesIn l)
 
--- the program indexes of the entries that a list holds
-unfoldable pub programsIn : Entries → List ℕ
-programsIn entries = map (λ (e : Entry). e .program) (entriesIn entries)
-
 -- what a judged call needs of a reading: the answer, and the program index of each entry, those of zeros past the last too
 unfoldable pub parsedPrograms : ParsedInstructions → Programs
 parsedPrograms p =

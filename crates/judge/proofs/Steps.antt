@@ -34,8 +34,8 @@ use Rattle.compact.specs.declared.Entry.{Entry}
 use Rattle.compact.specs.declared.ParsedInstructions.{ParsedInstructions}
 use Rattle.compact.specs.declared.Programs.{Programs}
 use Rattle.compact.specs.Compact.{Instruction, Read, decode}
-use Rattle.compact.specs.Views.{reading, entriesFrom, entryAt, programsIn, parsedPrograms, readingRefused}
-use Rattle.compact.proofs.Indexes.{programs-counted, programs-answer}
+use Rattle.compact.specs.Views.{reading, entriesFrom, entryAt, parsedPrograms, readingRefused}
+use Rattle.compact.proofs.Indexes.{programsIn, programs-counted, programs-answer}
 use Rattle.compact.proofs.Places.{entries-held}
 use Rattle.compact.proofs.Reading.{reading-of, outcome}
 use Rattle.account.specs.Record.{Record}

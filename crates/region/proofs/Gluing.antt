@@ -12,7 +12,8 @@ use Rattle.answer.proofs.Each.{each-so}
 use Rattle.answer.specs.Refusable.{given}
 use Rattle.number.specs.Number.{number, bytesOf, Bytes}
 use Rattle.number.proofs.Laws.{bytesOf-number, number-bytesOf, length-bytesOf, bytes-take, bytes-drop, bytes-append, bytesOf-bytes}
-use Rattle.part.proofs.Laws.{part-there}
+use Rattle.part.specs.Part.{partAt}
+use Rattle.part.proofs.Laws.{part-between}
 use Rattle.action.specs.Action.{Action, dataLength}
 use Rattle.action.specs.Views.{dataAt, actionAt, writtenAt}
 use Rattle.action.proofs.Regular.{Regular}
@@ -152,9 +153,9 @@ module _ (l : List Action) (a : Action) (m : List Action) where
   pub glued-action : actionAt (glue (l ++ (a ∷ m))) (actionViewAt (length (glue l)) a) ≡ a
   unfolding actionAt actionViewAt
   glued-action =
-      let there = part-there (glue (l ++ (a ∷ m))) (length (glue l) + 11) (length (a .payload)) within-glued in
       let payload : dataAt (glue (l ++ (a ∷ m))) (actionViewAt (length (glue l)) a) ≡ a .payload =
-      there ∙ ap (take (length (a .payload))) from-data ∙ take-at (a .payload) (glue m) _ refl in
+      ap (λ (s : List ℕ). partAt s (length (glue l) + 11) (length (a .payload))) (around l a m)
+      ∙ part-between (glue l ++ headerOf a) (a .payload) (glue m) _ _ before-data refl in
       ap (λ (p : List ℕ). record { kind = a .kind; expires = a .expires; payload = p }) payload
 
   -- writing in place is replacing that action, where the type, the expiry and the data's length stay
