@@ -10,7 +10,8 @@ use Rattle.compact.specs.declared.Entries.{Entries}
 use Rattle.compact.specs.declared.ParsedInstructions.{ParsedInstructions}
 use Rattle.compact.specs.declared.Head.the-variants.{At}
 use Rattle.compact.specs.Compact.{mostInstructions, decodeOne}
-use Rattle.compact.specs.Views.{zeroEntry, entriesOf, reading, entriesIn, parsedPrograms, headOf}
+use Rattle.compact.specs.Entries.{entriesIn}
+use Rattle.compact.specs.Views.{zeroEntry, entriesOf, reading, parsedPrograms, headOf}
 use Rattle.compact.proofs.Reading.{ReadSoFar, read-none, read-all, read-one}
 
 abbrev indexesOf : List Entry → List ℕ

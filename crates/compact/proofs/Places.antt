@@ -12,7 +12,8 @@ use Rattle.part.specs.Part.{partAt}
 use Rattle.part.proofs.Laws.{part-between}
 use Rattle.compact.specs.declared.Entry.{Entry}
 use Rattle.compact.specs.Compact.{Instruction, mostInstructions, encodeOne, encodeEach, encode}
-use Rattle.compact.specs.Views.{meant, entryAt, entriesFrom, zeroEntry, entriesOf, entriesIn, listOf}
+use Rattle.compact.specs.Entries.{meant, entriesIn, listOf}
+use Rattle.compact.specs.Views.{entryAt, entriesFrom, zeroEntry, entriesOf}
 
 pub entries-held : (es : List Entry) → entriesIn (entriesOf es) ≡ es
 unfolding entriesIn entriesOf

@@ -12,7 +12,8 @@ use Rattle.answer.specs.Outcome.{one-outcome}
 use Rattle.number.specs.Number.{Bytes}
 use Rattle.compact.specs.declared.ParsedInstructions.{ParsedInstructions}
 use Rattle.compact.specs.Compact.{Instruction, Writable, BeginsWithAList, mostInstructions, Read, encode, decodeOne, decode}
-use Rattle.compact.specs.Views.{entriesFrom, entriesOf, listOf, reading}
+use Rattle.compact.specs.Entries.{listOf}
+use Rattle.compact.specs.Views.{entriesFrom, entriesOf, reading}
 use Rattle.compact.proofs.Format.{one-extends, each-extends, needs-all, decode-count}
 use Rattle.compact.proofs.Lists.{decoded, decode-encoded, short, encoded-again, decoded-writable, each-bytes, reading-encoded, accepted-begins}
 

@@ -5,7 +5,8 @@ use mathlib.Core.List.{List, [], _∷_}
 use Rattle.answer.specs.NamedValue.{NamedValue}
 use Rattle.answer.specs.Numbers.{accepted, invalidInstructionData}
 use Rattle.compact.specs.declared.Entry.{Entry}
-use Rattle.compact.specs.Views.{reading, entriesIn}
+use Rattle.compact.specs.Entries.{entriesIn}
+use Rattle.compact.specs.Views.{reading}
 
 -- the numbers of some entries: program index, where the accounts start and how many, where the data starts and how long it is
 unfoldable pub entryNumbers : List Entry → List ℕ

@@ -1,14 +1,10 @@
 -- Where the instructions of a list lie in their source: the values that the code answers with, each from what was decoded.
 -- Assumes nothing.
 use Prim.Native.Nat.{ℕ, _+_, _-_}
-use mathlib.Core.Bool.{Bool}
 use mathlib.Core.List.{List, [], _∷_, _++_, map}
 use mathlib.Core.Option.{Option, none, some}
-use lib.Dec.{leb}
-use lib.ListN.{length, take, replicate}
+use lib.ListN.{length, replicate}
 use Rattle.answer.specs.Numbers.{answer, accepted, invalidInstructionData}
-use Rattle.part.specs.Part.{partAt}
-use Rattle.compact.specs.declared.Range.{Range}
 use Rattle.compact.specs.declared.Entry.{Entry}
 use Rattle.compact.specs.declared.Entries.{Entries}
 use Rattle.compact.specs.declared.ParsedInstructions.{ParsedInstructions}
@@ -16,18 +12,6 @@ use Rattle.compact.specs.declared.Programs.{Programs}
 use Rattle.compact.specs.declared.Head.{Head}
 use Rattle.compact.specs.declared.Head.the-variants.{At, Short}
 use Rattle.compact.specs.Compact.{Instruction, Read, mostInstructions, encodeOne, decode}
-
--- the bytes of a source that a range names, nothing where they are not all there
-abbrev pub rangeBytes : List ℕ → Range → List ℕ
-rangeBytes source r = partAt source (r .start) (r .len)
-
--- whether a range lies within a source: its start plus its length does not pass the end
-unfoldable pub within : List ℕ → Range → Bool
-within source r = leb (r .start + r .len) (length source)
-
--- the instruction that an entry means over a source
-unfoldable pub meant : List ℕ → Entry → Instruction
-meant source e = record { program = e .program; accounts = rangeBytes source (e .accounts); payload = rangeBytes source (e .payload) }
 
 -- the entry of an instruction whose encoding begins at a place
 unfoldable pub entryAt : ℕ → Instruction → Entry
@@ -62,14 +46,6 @@ reading bytes =
       | none ↦ readingRefused
       | some d ↦ record { answer = answer accepted; entries = entriesOf (entriesFrom 1 (d .value)); consumed = length bytes - length (d .rest) }
     ]
-
--- the entries that a list holds
-unfoldable pub entriesIn : Entries → List Entry
-entriesIn l = take (l .count) (l .list)
-
--- the instructions that they mean over a source
-unfoldable pub listOf : List ℕ → Entries → List Instruction
-listOf source l = map (meant source) (entriesIn l)
 
 -- what a judged call needs of a reading: the answer, and the program index of each entry, those of zeros past the last too
 unfoldable pub parsedPrograms : ParsedInstructions → Programs

@@ -13,7 +13,8 @@ use Rattle.part.proofs.Laws.{length-part-there}
 use Rattle.compact.specs.declared.Entry.{Entry}
 use Rattle.compact.specs.declared.Entries.{Entries}
 use Rattle.compact.specs.Compact.{Instruction, WritableOne, mostInstructions, mostAccounts, mostPayload, encodeOne, encodeEach, encode}
-use Rattle.compact.specs.Views.{meant, entryAt, entriesFrom, entriesOf, entriesIn, listOf, within}
+use Rattle.compact.specs.Entries.{meant, entriesIn, listOf, within}
+use Rattle.compact.specs.Views.{entryAt, entriesFrom, entriesOf}
 use Rattle.compact.proofs.Format.{length-encodeOne}
 use Rattle.compact.proofs.Reading.{length-placed}
 use Rattle.compact.proofs.Places.{entries-held, here, after}

@@ -11,7 +11,8 @@ use lib.Seq.{take-append-seam}
 use Rattle.answer.specs.Numbers.{answer, accepts, accepted}
 use Rattle.compact.specs.declared.Entries.{Entries}
 use Rattle.compact.specs.Compact.{Instruction, Writable, encode}
-use Rattle.compact.specs.Views.{entriesFrom, entriesOf, listOf, reading}
+use Rattle.compact.specs.Entries.{listOf}
+use Rattle.compact.specs.Views.{entriesFrom, entriesOf, reading}
 use Rattle.compact.proofs.Places.{encoded-means}
 use Rattle.compact.proofs.Lists.{short, reading-encoded}
 use Rattle.encoding.specs.Encoding.{encodable, writing, outputAfter}

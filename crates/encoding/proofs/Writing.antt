@@ -18,7 +18,7 @@ use Rattle.part.proofs.Laws.{length-part-there}
 use Rattle.compact.specs.declared.Entry.{Entry}
 use Rattle.compact.specs.declared.Entries.{Entries}
 use Rattle.compact.specs.Compact.{Instruction, mostInstructions, mostAccounts, mostPayload, encodeOne, encodeEach, encode}
-use Rattle.compact.specs.Views.{rangeBytes, meant, entriesIn, listOf, within}
+use Rattle.compact.specs.Entries.{rangeBytes, meant, entriesIn, listOf, within}
 use Rattle.compact.proofs.Format.{length-encodeOne}
 use Rattle.encoding.specs.declared.Size.{Size}
 use Rattle.encoding.specs.declared.Size.the-variants.{Of, NotEncodable}

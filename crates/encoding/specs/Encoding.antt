@@ -10,7 +10,7 @@ use Rattle.answer.specs.Numbers.{accepts, noRoom, notEncodable, firstRefusal, r
 use Rattle.compact.specs.declared.Entry.{Entry}
 use Rattle.compact.specs.declared.Entries.{Entries}
 use Rattle.compact.specs.Compact.{mostInstructions, mostAccounts, mostPayload, encode}
-use Rattle.compact.specs.Views.{entriesIn, listOf, within}
+use Rattle.compact.specs.Entries.{entriesIn, listOf, within}
 use Rattle.encoding.specs.declared.Written.{Written}
 
 -- whether an entry keeps the writer's limits

@@ -7,7 +7,7 @@ ghost use lib.Seq.{sets};
 ghost use Rattle.answer.specs.Numbers.{answer};
 ghost use Rattle.number.specs.Number.{bytesOf};
 ghost use Rattle.compact.specs.Compact.{mostInstructions, encodeOne, encodeEach, encode};
-ghost use Rattle.compact.specs.Views.{rangeBytes, meant, listOf, entriesIn};
+ghost use Rattle.compact.specs.Entries.{rangeBytes, meant, listOf, entriesIn};
 ghost use Rattle.encoding.specs.Encoding.{encodableOne, encodableEach, writing, outputAfter};
 ghost use Rattle.encoding.specs.Views.{sizeIf};
 use answer::ACCEPTED;

@@ -12,7 +12,7 @@ use lib.Dec.{ltb}
 use Rattle.answer.specs.Numbers.{accepts, refuseIf, invalidInstructionData}
 use Rattle.compact.specs.declared.Range.{Range}
 use Rattle.compact.specs.declared.Entry.{Entry}
-use Rattle.compact.specs.Views.{within, rangeBytes}
+use Rattle.compact.specs.Entries.{within, rangeBytes}
 use Rattle.account.specs.declared.RecordView.{RecordView}
 use Rattle.account.specs.Record.{Record}
 use Rattle.account.specs.Views.{recordAt, recordViews, recordsIn}

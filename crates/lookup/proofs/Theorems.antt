@@ -17,7 +17,7 @@ use Rattle.answer.specs.Refusable.{Refusable, given, refused}
 use Rattle.number.specs.Number.{number}
 use Rattle.part.proofs.Laws.{length-part-there}
 use Rattle.compact.specs.declared.Entry.{Entry}
-use Rattle.compact.specs.Views.{within, rangeBytes}
+use Rattle.compact.specs.Entries.{within, rangeBytes}
 use Rattle.account.specs.Record.{Record}
 use Rattle.table.specs.Table.{cutRecords, cutTable, recordsOf}
 use Rattle.table.proofs.Given.{none-given, one-given, table-given, table-refusal}

@@ -9,7 +9,7 @@ use Rattle.answer.specs.declared.Answer.{Answer}
 use Rattle.answer.specs.Numbers.{refuseIf, invalidInstructionData}
 use Rattle.answer.specs.Refusable.{given, refused}
 use Rattle.compact.specs.declared.Entry.{Entry}
-use Rattle.compact.specs.Views.{within, rangeBytes}
+use Rattle.compact.specs.Entries.{within, rangeBytes}
 use Rattle.account.specs.Record.{Record}
 use Rattle.table.specs.Table.{cutTable, recordsOf}
 
