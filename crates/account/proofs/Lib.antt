@@ -1,3 +1,2 @@
 pub mod InRow
-pub mod Parts
 pub mod Views

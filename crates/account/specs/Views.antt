@@ -1,38 +1,32 @@
 -- What a view names of a table, and the views that a row of numbers holds.
 -- Assumes nothing.
-use Prim.Native.Nat.{ℕ, _+_}
-use mathlib.Core.Bool.{cond}
+use Prim.Native.Nat.{ℕ}
 use mathlib.Core.List.{List, [], _∷_, map}
-use lib.Dec.{leb}
-use lib.ListN.{length, take, drop}
+use lib.ListN.{drop}
+use Rattle.part.specs.Part.{partAt}
 use Rattle.account.specs.declared.RecordView.{RecordView}
 use Rattle.account.specs.Record.{Record, recordHeader}
 
 -- what stands past the last view
-abbrev pub zeroView : RecordView
-zeroView = record { at = 0; len = 0 }
-
--- the `len` bytes at a place, nothing where they are not all there
-unfoldable pub partAt : List ℕ → ℕ → ℕ → List ℕ
-partAt s at len = cond (leb (at + len) (length s)) (take len (drop at s)) []
+abbrev pub zeroRecordView : RecordView
+zeroRecordView = record { at = 0; len = 0 }
 
 -- the record that a view names, each part by itself: nothing where it passes the end
 unfoldable pub recordAt : List ℕ → RecordView → Record
-unfolding partAt
 recordAt s v = record { key = partAt (drop (v .at) s) 0 32; owner = partAt (drop (v .at) s) 32 32; payload = partAt (drop (v .at) s) recordHeader (v .len) }
 
 -- the views that a row of numbers holds, two numbers for each: where the record starts and how long its data is
-unfoldable pub viewsOf : List ℕ → List RecordView
-viewsOf [] = []
-viewsOf (a ∷ []) = []
-viewsOf (a ∷ n ∷ l) = record { at = a; len = n } ∷ viewsOf l
+unfoldable pub recordViews : List ℕ → List RecordView
+recordViews [] = []
+recordViews (a ∷ []) = []
+recordViews (a ∷ n ∷ l) = record { at = a; len = n } ∷ recordViews l
 
 -- and the row that holds some views
-unfoldable pub rowOf : List RecordView → List ℕ
-rowOf [] = []
-rowOf (v ∷ l) = v .at ∷ v .len ∷ rowOf l
+unfoldable pub recordRow : List RecordView → List ℕ
+recordRow [] = []
+recordRow (v ∷ l) = v .at ∷ v .len ∷ recordRow l
 
 -- the records that the views of a row name
 unfoldable pub recordsIn : List ℕ → List ℕ → List Record
-unfolding recordAt viewsOf
-recordsIn s row = map (recordAt s) (viewsOf row)
+unfolding recordAt recordViews
+recordsIn s row = map (recordAt s) (recordViews row)

@@ -1,10 +1,11 @@
 // A record of an account table: the parts of the one that a view names, each as it lies in the table, and
 // rows of views. Any bytes get an answer.
 use key::KEY_LENGTH;
+use part::part_at;
 ghost use mathlib.Core.Path.{_≡_};
 ghost use Prim.Native.Nat.{_*_};
 ghost use lib.ListN.{getD, take, drop};
-ghost use Rattle.account.specs.Views.{partAt, recordAt, viewsOf, zeroView};
+ghost use Rattle.account.specs.Views.{recordAt, recordViews, zeroRecordView};
 
 pub const RECORD_HEADER_SIZE: usize = 68;
 
@@ -26,42 +27,29 @@ fn from(bytes: &[u8], at: usize) -> &[u8]
     &bytes[at..]
 }
 
-// The `len` bytes at `at`, or the empty part where they are not all there.
-fn part(bytes: &[u8], at: usize, len: usize) -> &[u8]
-    ensures { λ r. ⌜ now r ≡ partAt (now (bytes .entry)) at len ⌝ }
-{
-    if bytes.len() < len {
-        return &bytes[..0];
-    }
-    if bytes.len() - len < at {
-        return &bytes[..0];
-    }
-    &bytes[at..at + len]
-}
-
 pub fn record_key(table: &[u8], view: RecordView) -> &[u8]
     ensures { λ r. ⌜ now r ≡ recordAt (now (table .entry)) view .key ⌝ }
 {
-    part(from(table, view.at), 0, KEY_LENGTH)
+    part_at(from(table, view.at), 0, KEY_LENGTH)
 }
 
 // The program that owns the record.
 pub fn record_owner(table: &[u8], view: RecordView) -> &[u8]
     ensures { λ r. ⌜ now r ≡ recordAt (now (table .entry)) view .owner ⌝ }
 {
-    part(from(table, view.at), OWNER_PLACE, KEY_LENGTH)
+    part_at(from(table, view.at), OWNER_PLACE, KEY_LENGTH)
 }
 
 // The record's data.
 pub fn record_payload(table: &[u8], view: RecordView) -> &[u8]
     ensures { λ r. ⌜ now r ≡ recordAt (now (table .entry)) view .payload ⌝ }
 {
-    part(from(table, view.at), RECORD_HEADER_SIZE, view.len)
+    part_at(from(table, view.at), RECORD_HEADER_SIZE, view.len)
 }
 
 // The view at an index of a row of numbers, the zero view past the last.
 pub fn view_in(places: &[usize], i: usize) -> RecordView
-    ensures { λ r. ⌜ r ≡ getD (viewsOf (now (places .entry))) i zeroView ⌝ }
+    ensures { λ r. ⌜ r ≡ getD (recordViews (now (places .entry))) i zeroRecordView ⌝ }
 {
     if places.len() / 2 <= i {
         return RecordView { at: 0, len: 0 };

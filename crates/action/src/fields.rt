@@ -46,15 +46,7 @@ pub fn is_expired(expires: u64, slot: u64) -> bool
 pub fn data_of(region: &[u8], view: ActionView) -> &[u8]
     ensures { λ r. ⌜ now r ≡ dataAt (now (region .entry)) view ⌝ }
 {
-    let at = view.at;
-    let len = view.len;
-    if region.len() < len {
-        return &region[..0];
-    }
-    if region.len() - len < at {
-        return &region[..0];
-    }
-    &region[at..at + len]
+    part::part_at(region, view.at, view.len)
 }
 
 // The mint or program that an action's data begins with.

@@ -10,7 +10,7 @@ use Rattle.number.specs.Number.{cappedSum, highest}
 use Rattle.key.specs.Key.{sameKey}
 use Rattle.account.specs.declared.RecordView.{RecordView}
 use Rattle.account.specs.Record.{Record}
-use Rattle.account.specs.Views.{recordAt, viewsOf, recordsIn}
+use Rattle.account.specs.Views.{recordAt, recordViews, recordsIn}
 use Rattle.account.proofs.Views.{records-step}
 use Rattle.token.specs.Tokens.{mintOf, amountOf, isCounted}
 use Rattle.balance.specs.Balance.{share, holdings, balance}
@@ -61,13 +61,13 @@ module _ (vault mint : List ℕ) where
   -- the balance from a record on
   pub balance-step : (s row : List ℕ) (i : ℕ) (d : RecordView) → i < length row / 2
       → balance vault mint (drop i (recordsIn s row))
-      ≡ cappedSum (balance vault mint (drop (suc i) (recordsIn s row))) (share vault mint (recordAt s (getD (viewsOf row) i d)))
+      ≡ cappedSum (balance vault mint (drop (suc i) (recordsIn s row))) (share vault mint (recordAt s (getD (recordViews row) i d)))
   balance-step s row i d inside = rw (records-step s row i d inside) (balance-cons _ _)
 
   -- and from the one before a place on
   pub balance-before : (s row : List ℕ) (i : ℕ) (d : RecordView) → 0 < i → i ≤ length row / 2
       → balance vault mint (drop (i - 1) (recordsIn s row))
-      ≡ cappedSum (balance vault mint (drop i (recordsIn s row))) (share vault mint (recordAt s (getD (viewsOf row) (i - 1) d)))
+      ≡ cappedSum (balance vault mint (drop i (recordsIn s row))) (share vault mint (recordAt s (getD (recordViews row) (i - 1) d)))
   balance-before s row i d some inside =
       let place : suc (i - 1) ≡ i = omega arith in
       rw place at (balance-step s row (i - 1) d (omega arith))

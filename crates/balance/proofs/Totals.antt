@@ -10,7 +10,7 @@ use lib.Seq.{take-all, take-suc, drop-cons, set-at, getD-at, append-snoc}
 use Rattle.number.specs.Number.{cappedSum}
 use Rattle.key.specs.Key.{sameKey}
 use Rattle.account.specs.declared.RecordView.{RecordView}
-use Rattle.account.specs.Views.{recordAt, viewsOf, recordsIn}
+use Rattle.account.specs.Views.{recordAt, recordViews, recordsIn}
 use Rattle.account.proofs.Views.{length-records}
 use Rattle.token.specs.Tokens.{mintOf, amountOf, isCounted}
 use Rattle.balance.specs.Balance.{balance}
@@ -74,19 +74,19 @@ module _ (vault s row : List ℕ) (ks : List (List ℕ)) where
         rw (next, take-suc (map (from i) ks) j (from i d) there, this, append-snoc) (set-at (take j (map (from i) ks)) _ _ x j here)
 
     -- one turn of a counted record
-    pub turn-laid : (v : RecordView) → i < length row / 2 → isCounted vault (recordAt s (getD (viewsOf row) i v)) ≡ true
+    pub turn-laid : (v : RecordView) → i < length row / 2 → isCounted vault (recordAt s (getD (recordViews row) i v)) ≡ true
         → (key : List ℕ) → key ≡ getD ks j d → (total : ℕ) → total ≡ getD (partly i j) j 0
-        → set (partly i j) j (cond (sameKey (mintOf (recordAt s (getD (viewsOf row) i v))) key) (cappedSum total (amountOf (recordAt s (getD (viewsOf row) i v)))) total)
+        → set (partly i j) j (cond (sameKey (mintOf (recordAt s (getD (recordViews row) i v))) key) (cappedSum total (amountOf (recordAt s (getD (recordViews row) i v)))) total)
         ≡ partly i (suc j)
     turn-laid v there counted key this total e =
         total-laid _ (rw (e, total-at, this) (counted-adds _ vault _ _ (balance-fits vault _ _) counted ∙ sym (balance-step vault _ s row i v there)))
 
   -- after the turns of record i its totals are laid: all mints have it, or it adds to none
   pub record-laid : (i : ℕ) (d : RecordView) → i < length row / 2 → (turns : ℕ)
-      → turns ≡ cond (isCounted vault (recordAt s (getD (viewsOf row) i d))) (length ks) 0 → partly i turns ≡ laid i
-  record-laid i d inside turns e = go (isCounted vault (recordAt s (getD (viewsOf row) i d))) refl
+      → turns ≡ cond (isCounted vault (recordAt s (getD (recordViews row) i d))) (length ks) 0 → partly i turns ≡ laid i
+  record-laid i d inside turns e = go (isCounted vault (recordAt s (getD (recordViews row) i d))) refl
     where
-      go : (t : Bool) → isCounted vault (recordAt s (getD (viewsOf row) i d)) ≡ t → partly i turns ≡ laid i
+      go : (t : Bool) → isCounted vault (recordAt s (getD (recordViews row) i d)) ≡ t → partly i turns ≡ laid i
       go true c =
           let all : turns ≡ length ks = e ∙ ap (λ (t : Bool). cond t (length ks) 0) c in
           let size : length (map (from i) ks) ≡ length ks = simp length-map in

@@ -13,7 +13,7 @@ ghost use mathlib.Core.List.{List, map};
 ghost use Prim.Native.Nat.{ℕ};
 ghost use Rattle.number.specs.Number.{cappedSum};
 ghost use Rattle.key.specs.Key.{sameKey};
-ghost use Rattle.keys.specs.Keys.{keysIn};
+ghost use Rattle.keys.specs.Views.{keysIn};
 ghost use Rattle.account.specs.Views.{recordAt, recordsIn};
 ghost use Rattle.token.specs.Tokens.{isCounted};
 ghost use Rattle.balance.specs.Balance.{share, balance as balanceOf};

@@ -33,7 +33,7 @@ use Rattle.outflow.specs.Outflow.{decreaseOf}
 use Rattle.judge.specs.Judge.{Call, recordsBefore, recordsAfter, amountFor, charged, actionsOf, judged, regionAfter}
 use Rattle.judge.proofs.Theorems.{a-refusal-leaves-the-region, writes, an-accepted-call-keeps-the-stored-form, an-accepted-call-keeps-bytes, an-accepted-call-keeps-the-length, accepted-charges-keep-their-rules}
 use Rattle.bursar.specs.Run.{Fund, sol, tokens, takenBy}
-use Rattle.bursar.specs.Limits.{actionsIn, speaksOf, firstThat}
+use Rattle.bursar.specs.Limits.{regionActions, speaksOf, firstThat}
 
 -- ---- a region that stands: bytes in stored form
 
@@ -67,10 +67,10 @@ module _ (region : List ℕ) (call : Call) (st : Stands region) where
       go true e = an-accepted-call-keeps-the-length call region (st .stored) e (st .bytes)
       go false e = ap length (a-refusal-leaves-the-region region call e)
 
-  pub actions-are : actionsIn region ≡ st .actions
+  pub actions-are : regionActions region ≡ st .actions
   actions-are = ap actionsOf (st .stored)
 
-  pub actions-after : accepts (judged region call) ≡ true → actionsIn (regionAfter region call) ≡ map (afterCall call) (st .actions)
+  pub actions-after : accepts (judged region call) ≡ true → regionActions (regionAfter region call) ≡ map (afterCall call) (st .actions)
   actions-after e = ap actionsOf (an-accepted-call-keeps-the-stored-form call region (st .stored) e (st .bytes))
 
 -- ---- an action that was found
@@ -193,7 +193,7 @@ counts-recurring kind e = go (isLimit kind)
 -- ---- one call
 
 module _ {s t : ℕ} (pair : Pair s t) (fund : Fund) (region : List ℕ) (call : Call) (st : Stands region) (a : Action)
-    (is : firstThat (speaksOf s t fund) (actionsIn region) ≡ some a) where
+    (is : firstThat (speaksOf s t fund) (regionActions region) ≡ some a) where
   was : firstThat (speaksOf s t fund) (st .actions) ≡ some a
   was = ap (firstThat (speaksOf s t fund)) (sym (actions-are region call st)) ∙ is
 
@@ -209,7 +209,7 @@ module _ {s t : ℕ} (pair : Pair s t) (fund : Fund) (region : List ℕ) (call :
     known : Found call a × (speaksOf s t fund a ≡ true)
     known = found (speaksOf s t fund) (Found call) (st .actions) a (all-found region call st h) was
 
-    is-after : firstThat (speaksOf s t fund) (actionsIn (regionAfter region call)) ≡ some (afterCall call a)
+    is-after : firstThat (speaksOf s t fund) (regionActions (regionAfter region call)) ≡ some (afterCall call a)
     is-after =
         ap (firstThat (speaksOf s t fund)) (actions-after region call st h)
         ∙ found-changed (speaksOf s t fund) (writes call) (st .actions) a regulars (λ b r. speaks-still pair fund (writes call b) b r) was
@@ -217,17 +217,17 @@ module _ {s t : ℕ} (pair : Pair s t) (fund : Fund) (region : List ℕ) (call :
     taken-is : amountFor call a ≡ takes fund region call
     taken-is = amount-is-taken pair fund call a (known .1) ∙ sym (ap (λ (b : Bool). cond b (takenBy fund call) 0) h)
 
-  is-kept : accepts (judged region call) ≡ false → firstThat (speaksOf s t fund) (actionsIn (regionAfter region call)) ≡ some a
-  is-kept h = ap (λ (r : List ℕ). firstThat (speaksOf s t fund) (actionsIn r)) (a-refusal-leaves-the-region region call h) ∙ is
+  is-kept : accepts (judged region call) ≡ false → firstThat (speaksOf s t fund) (regionActions (regionAfter region call)) ≡ some a
+  is-kept h = ap (λ (r : List ℕ). firstThat (speaksOf s t fund) (regionActions r)) (a-refusal-leaves-the-region region call h) ∙ is
 
   -- what is left goes down by what the call takes
   pub limit-goes : isLimit s ≡ true → isLimit t ≡ true
-      → (b : Action) × (firstThat (speaksOf s t fund) (actionsIn (regionAfter region call)) ≡ some b)
+      → (b : Action) × (firstThat (speaksOf s t fund) (regionActions (regionAfter region call)) ≡ some b)
       × (remaining (amountsOf b) + takes fund region call ≡ remaining (amountsOf a))
   limit-goes ls lt = go (accepts (judged region call)) refl
     where
       go : (x : Bool) → accepts (judged region call) ≡ x
-          → (b : Action) × (firstThat (speaksOf s t fund) (actionsIn (regionAfter region call)) ≡ some b)
+          → (b : Action) × (firstThat (speaksOf s t fund) (regionActions (regionAfter region call)) ≡ some b)
           × (remaining (amountsOf b) + takes fund region call ≡ remaining (amountsOf a))
       go true h =
           let (facts, speaks) = known h in
@@ -243,7 +243,7 @@ module _ {s t : ℕ} (pair : Pair s t) (fund : Fund) (region : List ℕ) (call :
   -- what a call makes of a recurring limit
   pub record Went : Type 0 where
     pub after : Action
-    pub there : firstThat (speaksOf s t fund) (actionsIn (regionAfter region call)) ≡ some after
+    pub there : firstThat (speaksOf s t fund) (regionActions (regionAfter region call)) ≡ some after
     pub same-limit : limit (amountsOf after) ≡ limit (amountsOf a)
     pub same-window : window (amountsOf after) ≡ window (amountsOf a)
     pub goes : Goes (takes fund region call) (amountsOf a) (amountsOf after)

@@ -21,7 +21,7 @@ use Rattle.limit.proofs.Taking.{Goes, on, anew}
 use Rattle.judge.specs.Judge.{Call, actionsOf, judged, regionAfter}
 use Rattle.judge.proofs.Theorems.{a-stored-region-is-not-refused-as-such}
 use Rattle.bursar.specs.Run.{Created, Slotted, afterRun, numbersOf, Fund, takenBy, takenWhere, taken}
-use Rattle.bursar.specs.Limits.{actionsIn, isLimitOf, isRecurringOf, firstThat, amountsIn, limitOf, recurringOf, resetAt, takenAt, Moves, stays, later, howMany, termsIn}
+use Rattle.bursar.specs.Limits.{regionActions, isLimitOf, isRecurringOf, firstThat, amountsIn, limitOf, recurringOf, resetAt, takenAt, Moves, stays, later, howMany, termsIn}
 use Rattle.bursar.proofs.Terms.{one-call-keeps-the-terms, neither, at-most-one}
 use Rattle.bursar.proofs.OneCall.{Stands, still-stands, Pair, speaks-as, each-keeps, found, takes, limit-goes, recurring-goes}
 
@@ -48,8 +48,8 @@ token-is-limit : isLimit tokenLimit ≡ true
 unfolding isLimit
 token-is-limit = refl
 
-left-through : (fund : Fund) (calls : List Call) (region : List ℕ) → Stands region → (a : Action) → firstThat (isLimitOf fund) (actionsIn region) ≡ some a
-    → (b : Action) × (firstThat (isLimitOf fund) (actionsIn (afterRun region calls)) ≡ some b)
+left-through : (fund : Fund) (calls : List Call) (region : List ℕ) → Stands region → (a : Action) → firstThat (isLimitOf fund) (regionActions region) ≡ some a
+    → (b : Action) × (firstThat (isLimitOf fund) (regionActions (afterRun region calls)) ≡ some b)
     × (remaining (amountsOf b) + taken fund region calls ≡ remaining (amountsOf a))
 unfolding afterRun takenWhere
 left-through fund [] region st a is = (a, is, (let z : remaining (amountsOf a) + 0 ≡ remaining (amountsOf a) = omega arith in z))
@@ -66,7 +66,7 @@ pub what-is-left-and-what-was-taken-are-the-opening : (region : List ℕ) (calls
     → (end : List ℕ) × (limitOf fund (afterRun region calls) ≡ some end) × (remaining end + taken fund region calls ≡ remaining opening)
 unfolding limitOf
 what-is-left-and-what-was-taken-are-the-opening region calls fund opening created is =
-    let (a, found, amounts) = some-amounts (firstThat (isLimitOf fund) (actionsIn region)) opening is in
+    let (a, found, amounts) = some-amounts (firstThat (isLimitOf fund) (regionActions region)) opening is in
     let (b, found-b, sum) = left-through fund calls region (created-stands region created) a found in
     (amountsOf b, ap amountsIn found-b, sum ∙ ap remaining amounts)
 
@@ -128,7 +128,7 @@ module _ (slot amount total most : ℕ) (before after : List ℕ) where
 
 module _ (fund : Fund) (slot : ℕ) where
   -- what a call adds to a slot's total, where the recurring limit is found after it
-  added : (region : List ℕ) (call : Call) (b : Action) → firstThat (isRecurringOf fund) (actionsIn (regionAfter region call)) ≡ some b
+  added : (region : List ℕ) (call : Call) (b : Action) → firstThat (isRecurringOf fund) (regionActions (regionAfter region call)) ≡ some b
       → cond (accepts (judged region call) && resetAt slot (recurringOf fund (regionAfter region call))) (takenBy fund call) 0
       ≡ cond (eqb (lastReset (amountsOf b)) slot) (takes fund region call) 0
   unfolding recurringOf
@@ -137,7 +137,7 @@ module _ (fund : Fund) (slot : ℕ) where
       ∙ ap (λ (o : Option Action). cond (resetAt slot (amountsIn o)) (takes fund region call) 0) is
 
   window-through : (calls : List Call) (region : List ℕ) → Stands region → Slotted calls → (a : Action)
-      → firstThat (isRecurringOf fund) (actionsIn region) ≡ some a
+      → firstThat (isRecurringOf fund) (regionActions region) ≡ some a
       → limit (amountsOf a) < highest → spent (amountsOf a) ≤ limit (amountsOf a)
       → (cond (eqb (lastReset (amountsOf a)) slot) (spent (amountsOf a)) 0 + takenAt slot fund region calls ≤ limit (amountsOf a))
       × (slot < lastReset (amountsOf a) → takenAt slot fund region calls ≡ 0)
@@ -169,9 +169,9 @@ moves-once before after (on reset sum) = stays reset
 moves-once before after (anew moved n multiple sum) = later moved n multiple
 
 moves-through : (fund : Fund) (calls : List Call) (region : List ℕ) → Stands region → Slotted calls → (a : Action)
-    → firstThat (isRecurringOf fund) (actionsIn region) ≡ some a
+    → firstThat (isRecurringOf fund) (regionActions region) ≡ some a
     → limit (amountsOf a) < highest → spent (amountsOf a) ≤ limit (amountsOf a)
-    → (b : Action) × (firstThat (isRecurringOf fund) (actionsIn (afterRun region calls)) ≡ some b)
+    → (b : Action) × (firstThat (isRecurringOf fund) (regionActions (afterRun region calls)) ≡ some b)
     × Moves (window (amountsOf a)) (lastReset (amountsOf a)) (lastReset (amountsOf b))
 unfolding afterRun
 moves-through fund [] region st slots a is below within = (a, is, stays refl)
@@ -191,7 +191,7 @@ fresh-spends-nothing a recurs kept =
     eqb-true _ _ (and-eq-true-iff (eqb (spent (amountsOf a)) 0) _ .0 (and-eq-true-iff _ (eqb (lastReset (amountsOf a)) 0) .0 all .0) .0)
 
 -- nothing is spent of a new recurring limit
-nothing-spent : (region : List ℕ) (fund : Fund) (a : Action) → Created region → firstThat (isRecurringOf fund) (actionsIn region) ≡ some a
+nothing-spent : (region : List ℕ) (fund : Fund) (a : Action) → Created region → firstThat (isRecurringOf fund) (regionActions region) ≡ some a
     → spent (amountsOf a) ≤ limit (amountsOf a)
 nothing-spent region fund a (bytes, accepted) is =
     let (l, stored, fresh) = creation-accepted-is-stored region accepted in
@@ -207,7 +207,7 @@ module _ (region : List ℕ) (calls : List Call) (fund : Fund) (opening : List �
   pub a-window-takes-at-most-its-limit : (slot : ℕ) → takenAt slot fund region calls ≤ limit opening
   unfolding recurringOf
   a-window-takes-at-most-its-limit slot =
-      let (a, found-a, amounts) = some-amounts (firstThat (isRecurringOf fund) (actionsIn region)) opening is in
+      let (a, found-a, amounts) = some-amounts (firstThat (isRecurringOf fund) (regionActions region)) opening is in
       let (all, past) = window-through fund slot calls region (created-stands region created) slots a found-a (rw amounts below) (nothing-spent region fund a created found-a) in
       let same : limit (amountsOf a) ≡ limit opening = ap limit amounts in
       omega (arith, all, same)
@@ -216,7 +216,7 @@ module _ (region : List ℕ) (calls : List Call) (fund : Fund) (opening : List �
   pub the-last-reset-never-falls : (end : List ℕ) × (recurringOf fund (afterRun region calls) ≡ some end) × Moves (window opening) (lastReset opening) (lastReset end)
   unfolding recurringOf
   the-last-reset-never-falls =
-      let (a, found-a, amounts) = some-amounts (firstThat (isRecurringOf fund) (actionsIn region)) opening is in
+      let (a, found-a, amounts) = some-amounts (firstThat (isRecurringOf fund) (regionActions region)) opening is in
       let (b, found-b, moves) = moves-through fund calls region (created-stands region created) slots a found-a (rw amounts below) (nothing-spent region fund a created found-a) in
       (amountsOf b, ap amountsIn found-b, subst (λ (x : List ℕ). Moves (window x) (lastReset x) (lastReset (amountsOf b))) amounts moves)
 
@@ -255,14 +255,14 @@ a-run-keeps-the-terms region calls created = terms-through calls region (created
 
 -- the SolLimit is one, and so is the TokenLimit of each mint; so are the recurring limits
 pub a-fund-has-one-limit : (region : List ℕ) (calls : List Call) → Created region → (fund : Fund)
-    → (howMany (isLimitOf fund) (actionsIn (afterRun region calls)) ≤ 1) × (howMany (isRecurringOf fund) (actionsIn (afterRun region calls)) ≤ 1)
+    → (howMany (isLimitOf fund) (regionActions (afterRun region calls)) ≤ 1) × (howMany (isRecurringOf fund) (regionActions (afterRun region calls)) ≤ 1)
 unfolding solRepeats
 a-fund-has-one-limit region calls created fund =
     let st = stands-through calls region (created-stands region created) in
     let form = stored-is-formed (afterRun region calls) (st .actions) (st .stored) .1 in
     let (first-two, third) = neither _ _ (form .one-of-each-sol-type) in
     let (first, second) = neither _ _ first-two in
-    let is : actionsIn (afterRun region calls) ≡ st .actions = ap actionsOf (st .stored) in (
+    let is : regionActions (afterRun region calls) ≡ st .actions = ap actionsOf (st .stored) in (
       subst (λ (l : List Action). howMany (isLimitOf fund) l ≤ 1) (sym is) (at-most-one limits fund (st .actions) form (ltb-false _ _ first)),
       subst (λ (l : List Action). howMany (isRecurringOf fund) l ≤ 1) (sym is) (at-most-one recurrings fund (st .actions) form (ltb-false _ _ second)),
     )

@@ -16,8 +16,8 @@ use Rattle.judge.specs.Judge.{Call, actionsOf}
 use Rattle.bursar.specs.Run.{Fund, sol, tokens, takenWhere}
 
 -- the actions of a region
-abbrev pub actionsIn : List ℕ → List Action
-actionsIn region = actionsOf (storedActions region)
+abbrev pub regionActions : List ℕ → List Action
+regionActions region = actionsOf (storedActions region)
 
 -- whether an action speaks of a fund, as SOL's type or as the tokens' type
 unfoldable pub speaksOf : ℕ → ℕ → Fund → Action → Bool
@@ -49,11 +49,11 @@ amountsIn (some a) = some (amountsOf a)
 
 unfoldable pub limitOf : Fund → List ℕ → Option (List ℕ)
 unfolding firstThat
-limitOf fund region = amountsIn (firstThat (isLimitOf fund) (actionsIn region))
+limitOf fund region = amountsIn (firstThat (isLimitOf fund) (regionActions region))
 
 unfoldable pub recurringOf : Fund → List ℕ → Option (List ℕ)
 unfolding firstThat
-recurringOf fund region = amountsIn (firstThat (isRecurringOf fund) (actionsIn region))
+recurringOf fund region = amountsIn (firstThat (isRecurringOf fund) (regionActions region))
 
 -- whether a recurring limit was last reset at a slot
 abbrev pub resetAt : ℕ → Option (List ℕ) → Bool
@@ -90,4 +90,4 @@ termsOf a =
 
 -- the terms of a region's actions, in order
 abbrev pub termsIn : List ℕ → List Terms
-termsIn region = map termsOf (actionsIn region)
+termsIn region = map termsOf (regionActions region)

@@ -10,8 +10,8 @@ use lib.ListN.{length, take, drop, length-drop, take-append-drop, drop-of-length
 use lib.Seq.{drop-drop, drop-at, take-add, take-take, take-all, length-take-le}
 use Rattle.number.specs.Number.{withNumberAt}
 use Rattle.number.proofs.Laws.{not-written}
+use Rattle.part.proofs.Laws.{part-there}
 use Rattle.action.specs.declared.ActionView.{ActionView}
-use Rattle.action.proofs.Views.{data-there}
 use Rattle.action.specs.Action.{Action}
 use Rattle.action.specs.Fields.{mintLength, amountsOf}
 use Rattle.action.specs.Views.{dataAt, actionAt, writtenAt}
@@ -73,7 +73,7 @@ module _ (s : List ℕ) (v : ActionView) where
         ++ changedAmounts change (drop (mintLength (v .kind)) (take (v .len) (drop (v .at) s))))
         ++ drop (v .at + v .len) s
     unfolding writtenAt
-    written-there = rw (le-leb _ _ there, changed-payload change s v, data-there s v there)
+    written-there = rw (le-leb _ _ there, changed-payload change s v, part-there s (v .at) (v .len) there)
 
     -- data too short for amounts stays
     pub written-short : v .len < mintLength (v .kind) → s ≡ writtenAt s v (changed change (actionAt s v))

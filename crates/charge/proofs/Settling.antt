@@ -8,9 +8,9 @@ use lib.ListN.{length, length-append}
 use Rattle.action.specs.Action.{Action}
 use Rattle.action.specs.Views.{actionAt, writtenAt}
 use Rattle.change.proofs.Changing.{changed-kind, changed-expires, changed-length}
-use Rattle.row.specs.Row.{viewsOf}
+use Rattle.row.specs.Views.{actionViews}
 use Rattle.region.specs.Region.{glueOne, glue}
-use Rattle.region.specs.Views.{viewAt, placed}
+use Rattle.region.specs.Views.{actionViewAt, actionViewsFrom}
 use Rattle.region.proofs.Gluing.{glue-append, length-glueOne, glued-action, glued-written}
 use Rattle.limit.specs.Limit.{Charge, changeOf, settled}
 use Rattle.charge.specs.Views.{charges, settledViews, settledAt}
@@ -39,15 +39,15 @@ length-glue-one done a =
 
 -- settling the views of a glued row, from the first on
 settle-from : (slot : ℕ) (l : List Action) (xs : List ℕ) (done : List Action) → length l ≤ length xs
-    → settledViews slot (placed (length (glue done)) l) xs (glue (done ++ l)) ≡ glue (done ++ map (settled slot) (charges l xs))
-unfolding settledViews placed charges
+    → settledViews slot (actionViewsFrom (length (glue done)) l) xs (glue (done ++ l)) ≡ glue (done ++ map (settled slot) (charges l xs))
+unfolding settledViews actionViewsFrom charges
 settle-from slot [] xs done h = refl
 settle-from slot (a ∷ l) [] done h = absurd (let z : _≡_ {A = ℕ} 0 1 = omega arith in omega arith)
 settle-from slot (a ∷ l) (x ∷ xs) done h =
     let c : Charge = record { act = a; amount = x } in
     let b = settled slot c in
     let s = glue (done ++ (a ∷ l)) in
-    let v = viewAt (length (glue done)) a in
+    let v = actionViewAt (length (glue done)) a in
     let named : actionAt s v ≡ a = glued-action done a l in
     let wrote : writtenAt s v (settled slot (record { act = actionAt s v; amount = x })) ≡ glue ((done ++ (b ∷ [])) ++ l) =
     ap (λ (k : Action). writtenAt s v (settled slot (record { act = k; amount = x }))) named
@@ -55,12 +55,12 @@ settle-from slot (a ∷ l) (x ∷ xs) done h =
     ∙ ap glue (sym (append-assoc done (b ∷ []) l)) in
     let next : length (glue done) + 11 + length (a .payload) ≡ length (glue (done ++ (b ∷ []))) =
     ap (λ (n : ℕ). length (glue done) + 11 + n) (sym (settled-length slot c)) ∙ sym (length-glue-one done b) in
-    ap₂ (λ (place : ℕ) (r : List ℕ). settledViews slot (placed place l) xs r) next wrote
+    ap₂ (λ (place : ℕ) (r : List ℕ). settledViews slot (actionViewsFrom place l) xs r) next wrote
     ∙ settle-from slot l xs (done ++ (b ∷ [])) (omega arith)
     ∙ ap glue (append-assoc done (b ∷ []) (map (settled slot) (charges l xs)))
 
 -- settling a region where its actions lie is gluing the settled actions
-pub settle-glued : (slot : ℕ) (l : List Action) (row amounts : List ℕ) → viewsOf row ≡ placed 0 l → length l ≤ length amounts
+pub settle-glued : (slot : ℕ) (l : List Action) (row amounts : List ℕ) → actionViews row ≡ actionViewsFrom 0 l → length l ≤ length amounts
     → settledAt slot row amounts (glue l) ≡ glue (map (settled slot) (charges l amounts))
 unfolding settledAt glue
 settle-glued slot l row amounts e h = rw e (settle-from slot l amounts [] h)

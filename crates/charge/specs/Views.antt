@@ -5,7 +5,7 @@ use mathlib.Core.List.{List, [], _∷_}
 use Rattle.action.specs.declared.ActionView.{ActionView}
 use Rattle.action.specs.Action.{Action}
 use Rattle.action.specs.Views.{actionAt, writtenAt}
-use Rattle.row.specs.Row.{viewsOf, actionsIn}
+use Rattle.row.specs.Views.{actionViews, actionsIn}
 use Rattle.limit.specs.Limit.{Charge, settled}
 
 -- actions with an amount each, as far as both go
@@ -28,4 +28,4 @@ settledViews slot (v ∷ vs) (x ∷ xs) s = settledViews slot vs xs (writtenAt s
 -- the same for the actions of a row
 unfoldable pub settledAt : ℕ → List ℕ → List ℕ → List ℕ → List ℕ
 unfolding settledViews
-settledAt slot row amounts s = settledViews slot (viewsOf row) amounts s
+settledAt slot row amounts s = settledViews slot (actionViews row) amounts s

@@ -18,10 +18,16 @@ ghost use Rattle.answer.specs.Numbers.{answer, accepted};
 ghost use Prim.Native.Nat.{min};
 ghost use lib.ListN.{length};
 ghost use Rattle.action.specs.Views.{actionAt};
-ghost use Rattle.row.specs.Row.{viewsOf};
+ghost use Rattle.row.specs.Views.{actionViews};
 ghost use Rattle.limit.specs.Limit.{ruleAnswer};
 ghost use Rattle.charge.specs.Classes.{isSol, ofClass, classAnswer};
 ghost use Rattle.charge.specs.Views.{chargesAt, settledAt};
+
+// The two classes of rules.
+pub enum Class {
+    Sol,
+    Tokens,
+}
 
 fn is_sol(kind: u8) -> bool
     ensures { λ r. ⌜ r ≡ isSol kind ⌝ }
@@ -35,16 +41,19 @@ fn is_sol(kind: u8) -> bool
     kind == SOL_MAX_PER_TX
 }
 
-fn of_class(tokens: bool, kind: u8) -> bool
-    ensures { λ r. ⌜ r ≡ ofClass tokens kind ⌝ }
+fn of_class(class: Class, kind: u8) -> bool
+    ensures { λ r. ⌜ r ≡ ofClass class kind ⌝ }
 {
-    if tokens { is_token(kind) } else { is_sol(kind) }
+    match class {
+        Class::Sol => is_sol(kind),
+        Class::Tokens => is_token(kind),
+    }
 }
 
-fn class_rule(region: &[u8], view: ActionView, tokens: bool, slot: u64, amount: u64) -> Answer
-    ensures { λ r. ⌜ r ≡ cond (ofClass tokens (view .kind)) (ruleAnswer slot (record { act = actionAt (now (region .entry)) view; amount = amount })) (answer accepted) ⌝ }
+fn class_rule(region: &[u8], view: ActionView, class: Class, slot: u64, amount: u64) -> Answer
+    ensures { λ r. ⌜ r ≡ cond (ofClass class (view .kind)) (ruleAnswer slot (record { act = actionAt (now (region .entry)) view; amount = amount })) (answer accepted) ⌝ }
 {
-    if of_class(tokens, view.kind) {
+    if of_class(class, view.kind) {
         return rule_answer(region, view, slot, amount);
     }
     Answer::of(ACCEPTED)
@@ -52,29 +61,28 @@ fn class_rule(region: &[u8], view: ActionView, tokens: bool, slot: u64, amount: 
 
 // How many actions of a row there is an amount for.
 fn charged(actions: &[u64], amounts: &[u64]) -> usize
-    ensures { λ r. ⌜ r ≡ min (length (viewsOf (now (actions .entry)))) (length (now (amounts .entry))) ⌝ }
+    ensures { λ r. ⌜ r ≡ min (length (actionViews (now (actions .entry)))) (length (now (amounts .entry))) ⌝ }
 {
     let n = how_many(actions);
     if n < amounts.len() { n } else { amounts.len() }
 }
 
-// What the rules of one class, the tokens' or SOL's, answer, in region order and as far as there are
-// amounts.
+// What the rules of one class answer, in region order and as far as there are amounts.
 pub fn class_answer(
     region: &[u8],
     actions: &[u64],
     amounts: &[u64],
-    tokens: bool,
+    class: Class,
     slot: u64,
 ) -> Answer
-    ensures { λ r. ⌜ r ≡ classAnswer tokens slot (chargesAt (now (region .entry)) (now (actions .entry)) (now (amounts .entry))) ⌝ }
+    ensures { λ r. ⌜ r ≡ classAnswer class slot (chargesAt (now (region .entry)) (now (actions .entry)) (now (amounts .entry))) ⌝ }
 {
     let n = charged(actions, amounts);
     let mut i = 0;
     while i < n {
         let view = action_in(actions, i);
         let amount = amounts[i];
-        let answer = class_rule(region, view, tokens, slot, amount);
+        let answer = class_rule(region, view, class, slot, amount);
         if !answer.accepts() {
             return answer;
         }

@@ -6,10 +6,12 @@ use mathlib.Core.List.{List, [], _∷_, map}
 use lib.ListN.{length, getD, take, drop, set, replicate}
 use Rattle.answer.specs.Numbers.{answer, accepted}
 use Rattle.compact.specs.declared.Entry.{Entry}
-use Rattle.compact.specs.declared.Parsed.{Parsed}
+use Rattle.compact.specs.declared.Entries.{Entries}
+use Rattle.compact.specs.declared.ParsedInstructions.{ParsedInstructions}
 use Rattle.compact.specs.declared.Head.the-variants.{At}
 use Rattle.compact.specs.Compact.{mostInstructions, decodeOne}
-use Rattle.compact.specs.Views.{zeroEntry, entriesOf, reading, entriesIn, programsIn, programsOf, headOf}
+use Rattle.compact.specs.Entries.{entriesIn}
+use Rattle.compact.specs.Views.{zeroEntry, entriesOf, reading, parsedPrograms, headOf}
 use Rattle.compact.proofs.Reading.{ReadSoFar, read-none, read-all, read-one}
 
 abbrev indexesOf : List Entry → List ℕ
@@ -37,8 +39,8 @@ unfolding entriesOf zeroEntry mostInstructions
 indexes-none bytes some-byte few = record { entries = entriesOf [] .list; so-far = read-none bytes some-byte few; indexes = refl }
 
 module _ {bytes : List ℕ} {count : ℕ} {list : List ℕ} {at i : ℕ} (far : IndexesSoFar bytes count list at i) where
-  pub indexes-all : count ≤ i → programsOf (reading bytes) ≡ record { answer = answer accepted; list = list; count = count }
-  unfolding programsOf
+  pub indexes-all : count ≤ i → parsedPrograms (reading bytes) ≡ record { answer = answer accepted; list = list; count = count }
+  unfolding parsedPrograms
   indexes-all last = rw (read-all (far .so-far) last, far .indexes)
 
   pub indexes-one : i < count → (entry : Entry) (next : ℕ) → headOf at (decodeOne (drop at bytes)) ≡ At entry next
@@ -51,10 +53,14 @@ module _ {bytes : List ℕ} {count : ℕ} {list : List ℕ} {at i : ℕ} (far : 
       }
 
 -- the counted indexes are those of the entries that the list holds
-pub programs-counted : (p : Parsed) → take (programsOf p .count) (programsOf p .list) ≡ programsIn (p .entries)
-unfolding programsOf programsIn entriesIn
+-- the program indexes of the entries that a list holds
+unfoldable pub programsIn : Entries → List ℕ
+programsIn entries = indexesOf (entriesIn entries)
+
+pub programs-counted : (p : ParsedInstructions) → take (parsedPrograms p .count) (parsedPrograms p .list) ≡ programsIn (p .entries)
+unfolding parsedPrograms programsIn entriesIn
 programs-counted p = take-indexes (p .entries .count) (p .entries .list)
 
-pub programs-answer : (p : Parsed) → programsOf p .answer ≡ p .answer
-unfolding programsOf
+pub programs-answer : (p : ParsedInstructions) → parsedPrograms p .answer ≡ p .answer
+unfolding parsedPrograms
 programs-answer p = refl

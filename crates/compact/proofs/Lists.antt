@@ -15,7 +15,7 @@ use Rattle.answer.specs.Numbers.{answer, accepts, accepted}
 use Rattle.number.specs.Number.{Bytes, bytesOf}
 use Rattle.number.proofs.Laws.{bytes-append, bytesOf-bytes}
 use Rattle.compact.specs.Compact.{Instruction, WritableOne, Writable, BeginsWithAList, mostInstructions, mostAccounts, mostPayload, Read, encodeOne, encodeEach, encode, byte, decodeEach, decode}
-use Rattle.compact.specs.Views.{placed, entriesOf, refused, reading}
+use Rattle.compact.specs.Views.{entriesFrom, entriesOf, readingRefused, reading}
 use Rattle.compact.proofs.Format.{each-encoded, each-again, each-count, decode-count, decode-too-many}
 use Rattle.compact.proofs.Reading.{outcome, reading-of}
 
@@ -70,7 +70,7 @@ each-bytes (i ∷ is) h j = bytes-append (encodeOne i) (encodeEach is) (one-byte
 -- reading gives the entries of the list that was encoded, and consumes exactly its encoding, whatever follows
 pub reading-encoded : (is : List Instruction) (rest : List ℕ) → length is ≤ mostInstructions
     → Each (λ (i : Instruction). length (i .payload) ≤ mostPayload) is
-    → reading (encode is ++ rest) ≡ record { answer = answer accepted; entries = entriesOf (placed 1 is); consumed = length (encode is) }
+    → reading (encode is ++ rest) ≡ record { answer = answer accepted; entries = entriesOf (entriesFrom 1 is); consumed = length (encode is) }
 unfolding outcome
 reading-encoded is rest few h =
     let all : length (encode is) + length rest - length rest ≡ length (encode is) = omega arith in
@@ -78,7 +78,7 @@ reading-encoded is rest few h =
     ∙ rw (length-append, all)
 
 pub accepted-begins : (bytes : List ℕ) → Bytes bytes → accepts (reading bytes .answer) ≡ true → BeginsWithAList bytes
-unfolding outcome refused
+unfolding outcome readingRefused
 accepted-begins bytes hb h = go (decode bytes) refl
   where
     go : (o : Option (Read (List Instruction))) → decode bytes ≡ o → BeginsWithAList bytes

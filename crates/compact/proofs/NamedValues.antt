@@ -4,9 +4,10 @@ use mathlib.Core.Path.{refl}
 use Rattle.answer.specs.NamedValue.{AsNamed}
 use Rattle.number.specs.Number.{number, bytesOf}
 use Rattle.compact.specs.Compact.{mostInstructions, encodeOne, byte, front, decodeOne, decodeEach, decode}
-use Rattle.compact.specs.Views.{placedOne, placed, zeroEntry, entriesOf, entriesIn, refused, reading}
+use Rattle.compact.specs.Entries.{entriesIn}
+use Rattle.compact.specs.Views.{entryAt, entriesFrom, zeroEntry, entriesOf, readingRefused, reading}
 use Rattle.compact.specs.NamedValues.{namedValues}
 
 pub as-named : AsNamed namedValues
-unfolding namedValues mostInstructions encodeOne byte front decodeOne decodeEach decode placedOne placed zeroEntry entriesOf entriesIn refused reading number bytesOf
+unfolding namedValues mostInstructions encodeOne byte front decodeOne decodeEach decode entryAt entriesFrom zeroEntry entriesOf entriesIn readingRefused reading number bytesOf
 as-named = (refl, (refl, (refl, tt)))

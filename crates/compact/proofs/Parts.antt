@@ -7,7 +7,7 @@ use native.Mathlib.Nat.{sub-zero, suc-sub-suc}
 use native.Mathlib.Numerals.{add-one, add-two}
 use native.Mathlib.Omega.{arith}
 use lib.ListN.{length, getD, take, drop, replicate, length-drop, length-replicate, take-append-drop}
-use lib.Seq.{length-take-le, take-at, drop-at, drop-cons, drop-drop, sets, sets-eq}
+use lib.Seq.{length-take-le, drop-cons, drop-drop, sets, sets-eq}
 
 pub length-part : (n at : ℕ) (s : List ℕ) → at + n ≤ length s → length (take n (drop at s)) ≡ n
 length-part n at s h = length-take-le n (drop at s) (simp length-drop (omega arith))
@@ -15,10 +15,6 @@ length-part n at s h = length-take-le n (drop at s) (simp length-drop (omega ari
 -- a part at a place, and what is after it
 pub cut : (n at : ℕ) (s : List ℕ) → take n (drop at s) ++ drop (at + n) s ≡ drop at s
 cut n at s = rw (← (drop-drop n at s)) (take-append-drop n (drop at s))
-
--- a part of a row that is put together
-pub part-at : (before xs after : List ℕ) (at n : ℕ) → length before ≡ at → length xs ≡ n → take n (drop at (before ++ (xs ++ after))) ≡ xs
-part-at before xs after at n ha hn = rw (drop-at before (xs ++ after) at ha, take-at xs after n hn)
 
 -- two elements at a place, and what is after them
 pub two-off : (at : ℕ) (s : List ℕ) → at + 2 ≤ length s → drop at s ≡ getD s at 0 ∷ getD s (at + 1) 0 ∷ drop (at + 2) s

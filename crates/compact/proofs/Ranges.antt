@@ -9,7 +9,7 @@ use borrow.Author.Tests.{le-leb, lt-leb, leb-true, leb-false}
 use lib.Dec.{leb}
 use lib.ListN.{length}
 use Rattle.compact.specs.declared.Range.{Range}
-use Rattle.compact.specs.Views.{within}
+use Rattle.compact.specs.Entries.{within}
 
 pub within-left : (source : List ℕ) (r : Range) → r .start ≤ length source → leb (r .len) (length source - r .start) ≡ within source r
 unfolding within

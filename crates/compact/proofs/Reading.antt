@@ -14,10 +14,10 @@ use Rattle.number.specs.Number.{number, numberAt}
 use Rattle.number.proofs.Laws.{number-there}
 use Rattle.compact.specs.declared.Entry.{Entry}
 use Rattle.compact.specs.declared.Entries.{Entries}
-use Rattle.compact.specs.declared.Parsed.{Parsed}
+use Rattle.compact.specs.declared.ParsedInstructions.{ParsedInstructions}
 use Rattle.compact.specs.declared.Head.the-variants.{At, Short}
 use Rattle.compact.specs.Compact.{Instruction, Read, _>>=_, byte, mostInstructions, encodeOne, decodeOne, decodeEach, decode}
-use Rattle.compact.specs.Views.{placedOne, placed, zeroEntry, entriesOf, refused, reading, headOf}
+use Rattle.compact.specs.Views.{entryAt, entriesFrom, zeroEntry, entriesOf, readingRefused, reading, headOf}
 use Rattle.compact.proofs.Parts.{length-part, cut, two-off, filled}
 use Rattle.compact.proofs.Format.{Lies, lies-is-read, read-lies, one-size, one-rest, length-encodeOne, each-count, decode-count, decode-too-many}
 
@@ -108,7 +108,7 @@ module _ (bytes : List ℕ) (at : ℕ) where
           payload = record { start = at + 2 + getD bytes (at + 1) 0 + 2; len = size };
         })
         (at + 2 + getD bytes (at + 1) 0 + 2 + size)
-    unfolding headOf placedOne count there
+    unfolding headOf entryAt count there
     head-there =
         let accounts = length-part count (at + 2) bytes (omega arith) in
         let payload = length-part size (at + 2 + count + 2) bytes (omega arith) in
@@ -116,37 +116,37 @@ module _ (bytes : List ℕ) (at : ℕ) where
         rw (lies-is-read (drop at bytes) there there-lies, length-encodeOne, accounts, payload, sum)
 
 -- reading by what was decoded, and by which entries that makes
-unfoldable pub outcome : List ℕ → (List Instruction → Entries) → Option (Read (List Instruction)) → Parsed
-outcome bytes entries none = refused
+unfoldable pub outcome : List ℕ → (List Instruction → Entries) → Option (Read (List Instruction)) → ParsedInstructions
+outcome bytes entries none = readingRefused
 outcome bytes entries (some d) =
     record { answer = answer accepted; entries = entries (d .value); consumed = length bytes - length (d .rest) }
 
 pub reading-of : (bytes : List ℕ) (o : Option (Read (List Instruction))) → decode bytes ≡ o
-    → reading bytes ≡ outcome bytes (λ (is : List Instruction). entriesOf (placed 1 is)) o
+    → reading bytes ≡ outcome bytes (λ (is : List Instruction). entriesOf (entriesFrom 1 is)) o
 unfolding reading outcome
 reading-of bytes none e = rw (e, reading)
 reading-of bytes (some d) e = rw (e, reading)
 
-pub reading-empty : (bytes : List ℕ) → length bytes < 1 → reading bytes ≡ refused
+pub reading-empty : (bytes : List ℕ) → length bytes < 1 → reading bytes ≡ readingRefused
 unfolding decode byte outcome
 reading-empty [] h = reading-of [] none refl
 reading-empty (b ∷ bytes) h = absurd (omega arith)
 
-pub reading-too-many : (bytes : List ℕ) → 0 < length bytes → mostInstructions < getD bytes 0 0 → reading bytes ≡ refused
+pub reading-too-many : (bytes : List ℕ) → 0 < length bytes → mostInstructions < getD bytes 0 0 → reading bytes ≡ readingRefused
 unfolding outcome
 reading-too-many [] hb h = absurd (omega arith)
 reading-too-many (b ∷ bytes) hb h = reading-of (b ∷ bytes) none (decode-too-many b bytes h)
 
 -- the entries where the list so far is `list`, and the instructions from a place on are to come
 abbrev entriesOn : ℕ → ℕ → List Entry → ℕ → List Instruction → Entries
-entriesOn count at list i is = record { list = sets list i (placed at is); count = count }
+entriesOn count at list i is = record { list = sets list i (entriesFrom at is); count = count }
 
 -- reading, where so many instructions are left from a place, and the entries of the others are listed
-unfoldable pub readingOn : ℕ → List ℕ → ℕ → ℕ → List Entry → ℕ → Parsed
+unfoldable pub readingOn : ℕ → List ℕ → ℕ → ℕ → List Entry → ℕ → ParsedInstructions
 readingOn left bytes count at list i = outcome bytes (entriesOn count at list i) (decodeEach left (drop at bytes))
 
-pub length-placed : (at : ℕ) (is : List Instruction) → length (placed at is) ≡ length is
-unfolding placed
+pub length-placed : (at : ℕ) (is : List Instruction) → length (entriesFrom at is) ≡ length is
+unfolding entriesFrom
 length-placed at [] = refl
 length-placed at (i ∷ is) = ap suc (length-placed (at + length (encodeOne i)) is)
 
@@ -158,28 +158,28 @@ reading-starts (b ∷ bytes) hb h = go (decodeEach b bytes) refl ∙ sym (readin
   where
     go : (o : Option (Read (List Instruction))) → decodeEach b bytes ≡ o
         → outcome (b ∷ bytes) (entriesOn b 1 (entriesOf [] .list) 0) o
-        ≡ outcome (b ∷ bytes) (λ (is : List Instruction). entriesOf (placed 1 is)) o
+        ≡ outcome (b ∷ bytes) (λ (is : List Instruction). entriesOf (entriesFrom 1 is)) o
     go none e = refl
     go (some d) e =
-        let many : length (placed 1 (d .value)) ≡ b = length-placed 1 (d .value) ∙ each-count b bytes d e in
-        let room : length (placed 1 (d .value)) ≤ mostInstructions = rw many h in
-        rw (sub-zero mostInstructions, filled mostInstructions zeroEntry (placed 1 (d .value)) room, many)
+        let many : length (entriesFrom 1 (d .value)) ≡ b = length-placed 1 (d .value) ∙ each-count b bytes d e in
+        let room : length (entriesFrom 1 (d .value)) ≤ mostInstructions = rw many h in
+        rw (sub-zero mostInstructions, filled mostInstructions zeroEntry (entriesFrom 1 (d .value)) room, many)
 
 module _ (left : ℕ) (bytes : List ℕ) (count at : ℕ) (list : List Entry) (i : ℕ) where
-  reading-stops : headOf at (decodeOne (drop at bytes)) ≡ Short → readingOn (suc left) bytes count at list i ≡ refused
+  reading-stops : headOf at (decodeOne (drop at bytes)) ≡ Short → readingOn (suc left) bytes count at list i ≡ readingRefused
   unfolding readingOn decodeEach headOf outcome
   reading-stops h = go (decodeOne (drop at bytes)) refl h
     where
       go : (o : Option (Read Instruction)) → decodeOne (drop at bytes) ≡ o → headOf at o ≡ Short
-          → readingOn (suc left) bytes count at list i ≡ refused
+          → readingOn (suc left) bytes count at list i ≡ readingRefused
       go none e s = rw (e, readingOn)
       go (some d) e s = cc
 
   one-more : (d : Read Instruction) (o : Option (Read (List Instruction)))
       → outcome bytes (entriesOn count at list i)
       (o >>= (λ (more : Read (List Instruction)). some (record { value = d .value ∷ more .value; rest = more .rest })))
-      ≡ outcome bytes (entriesOn count (at + length (encodeOne (d .value))) (set list i (placedOne at (d .value))) (suc i)) o
-  unfolding outcome placed
+      ≡ outcome bytes (entriesOn count (at + length (encodeOne (d .value))) (set list i (entryAt at (d .value))) (suc i)) o
+  unfolding outcome entriesFrom
   one-more d none = refl
   one-more d (some more) = refl
 
@@ -194,7 +194,7 @@ module _ (left : ℕ) (bytes : List ℕ) (count at : ℕ) (list : List Entry) (i
       go (some d) e s =
           let size = length (encodeOne (d .value)) in
           let rest : d .rest ≡ drop (at + size) bytes = one-rest (drop at bytes) d e ∙ drop-drop size at bytes in
-          let here : placedOne at (d .value) ≡ entry = cc in
+          let here : entryAt at (d .value) ≡ entry = cc in
           let there : at + size ≡ next = cc in
           rw (e, rest, ← here, ← there) (one-more d (decodeEach left (drop (at + size) bytes)))
 
@@ -211,7 +211,7 @@ reading-inside bytes at entry next inside h = go (decodeOne (drop at bytes)) ref
 
 reading-ends : (bytes : List ℕ) (count at : ℕ) (list : List Entry) (i : ℕ) → at ≤ length bytes
     → readingOn 0 bytes count at list i ≡ record { answer = answer accepted; entries = record { list = list; count = count }; consumed = at }
-unfolding readingOn decodeEach outcome placed
+unfolding readingOn decodeEach outcome entriesFrom
 reading-ends bytes count at list i inside =
     let all : length bytes - (length bytes - at) ≡ at = omega arith in
     rw (length-drop, all)
@@ -240,7 +240,7 @@ module _ {bytes : List ℕ} {count : ℕ} {list : List Entry} {at i : ℕ} (far 
     one-left : readingOn (suc (count - suc i)) bytes count at list i ≡ reading bytes
     one-left = let left : count - i ≡ suc (count - suc i) = omega arith in rw left at (far .same)
 
-    pub read-short : headOf at (decodeOne (drop at bytes)) ≡ Short → reading bytes ≡ refused
+    pub read-short : headOf at (decodeOne (drop at bytes)) ≡ Short → reading bytes ≡ readingRefused
     read-short h = sym one-left ∙ reading-stops (count - suc i) bytes count at list i h
 
     pub read-one : (entry : Entry) (next : ℕ) → headOf at (decodeOne (drop at bytes)) ≡ At entry next

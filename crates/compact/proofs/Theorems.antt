@@ -10,9 +10,10 @@ use lib.ListN.{length, take}
 use Rattle.answer.specs.Numbers.{answer, accepts, accepted}
 use Rattle.answer.specs.Outcome.{one-outcome}
 use Rattle.number.specs.Number.{Bytes}
-use Rattle.compact.specs.declared.Parsed.{Parsed}
+use Rattle.compact.specs.declared.ParsedInstructions.{ParsedInstructions}
 use Rattle.compact.specs.Compact.{Instruction, Writable, BeginsWithAList, mostInstructions, Read, encode, decodeOne, decode}
-use Rattle.compact.specs.Views.{placed, entriesOf, listOf, reading}
+use Rattle.compact.specs.Entries.{listOf}
+use Rattle.compact.specs.Views.{entriesFrom, entriesOf, reading}
 use Rattle.compact.proofs.Format.{one-extends, each-extends, needs-all, decode-count}
 use Rattle.compact.proofs.Lists.{decoded, decode-encoded, short, encoded-again, decoded-writable, each-bytes, reading-encoded, accepted-begins}
 
@@ -38,18 +39,18 @@ bytes-begin-with-one-list-alone is js xs ys hi hj e =
     (ap (λ (r : Read (List Instruction)). r .value) same, ap (λ (r : Read (List Instruction)). r .rest) same)
 
 pub reading-what-was-encoded : (is : List Instruction) (rest : List ℕ) → Writable is
-    → reading (encode is ++ rest) ≡ record { answer = answer accepted; entries = entriesOf (placed 1 is); consumed = length (encode is) }
+    → reading (encode is ++ rest) ≡ record { answer = answer accepted; entries = entriesOf (entriesFrom 1 is); consumed = length (encode is) }
 reading-what-was-encoded is rest h = reading-encoded is rest (h .few) (short is (h .each))
 
 pub what-reading-accepts-begins-with-a-list : (bytes : List ℕ) → Bytes bytes → accepts (reading bytes .answer) ≡ true → BeginsWithAList bytes
 what-reading-accepts-begins-with-a-list = accepted-begins
 
 -- whatever meets the contract of reading gives one list and one count of bytes consumed
-pub reading-determines-the-list-and-the-count : (bytes : List ℕ) (p q : Parsed) → p ≡ reading bytes → q ≡ reading bytes
+pub reading-determines-the-list-and-the-count : (bytes : List ℕ) (p q : ParsedInstructions) → p ≡ reading bytes → q ≡ reading bytes
     → (listOf bytes (p .entries) ≡ listOf bytes (q .entries)) × (p .consumed ≡ q .consumed)
 reading-determines-the-list-and-the-count bytes p q hp hq =
     let same = one-outcome hp hq in
-    (ap (λ (r : Parsed). listOf bytes (r .entries)) same, ap (λ (r : Parsed). r .consumed) same)
+    (ap (λ (r : ParsedInstructions). listOf bytes (r .entries)) same, ap (λ (r : ParsedInstructions). r .consumed) same)
 
 -- for a reader that takes the bytes in pieces: one instruction, and the list
 pub more-bytes-do-not-change-the-first-instruction : (bytes more : List ℕ) (r : Read Instruction) → decodeOne bytes ≡ some r

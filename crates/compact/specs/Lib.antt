@@ -1,3 +1,4 @@
 pub mod Compact
+pub mod Entries
 pub mod Views
 pub mod NamedValues

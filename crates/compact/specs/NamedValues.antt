@@ -5,19 +5,20 @@ use mathlib.Core.List.{List, [], _∷_}
 use Rattle.answer.specs.NamedValue.{NamedValue}
 use Rattle.answer.specs.Numbers.{accepted, invalidInstructionData}
 use Rattle.compact.specs.declared.Entry.{Entry}
-use Rattle.compact.specs.Views.{reading, entriesIn}
+use Rattle.compact.specs.Entries.{entriesIn}
+use Rattle.compact.specs.Views.{reading}
 
 -- the numbers of some entries: program index, where the accounts start and how many, where the data starts and how long it is
-unfoldable pub numbersOf : List Entry → List ℕ
-numbersOf [] = []
-numbersOf (e ∷ es) = e .program ∷ e .accounts .start ∷ e .accounts .len ∷ e .payload .start ∷ e .payload .len ∷ numbersOf es
+unfoldable pub entryNumbers : List Entry → List ℕ
+entryNumbers [] = []
+entryNumbers (e ∷ es) = e .program ∷ e .accounts .start ∷ e .accounts .len ∷ e .payload .start ∷ e .payload .len ∷ entryNumbers es
 
 -- what reading gives: the answer, the bytes consumed, the numbers of the entries
 unfoldable pub read : List ℕ → List ℕ
-read bytes = reading bytes .answer .number ∷ reading bytes .consumed ∷ numbersOf (entriesIn (reading bytes .entries))
+read bytes = reading bytes .answer .number ∷ reading bytes .consumed ∷ entryNumbers (entriesIn (reading bytes .entries))
 
 unfoldable pub namedValues : List NamedValue
-unfolding numbersOf read
+unfolding entryNumbers read
 namedValues =
     -- C1: no instruction consumes one byte
     record { gives = read (0x00 ∷ []); named = accepted ∷ 1 ∷ [] }

@@ -1,36 +1,21 @@
 -- Where the instructions of a list lie in their source: the values that the code answers with, each from what was decoded.
 -- Assumes nothing.
 use Prim.Native.Nat.{ℕ, _+_, _-_}
-use mathlib.Core.Bool.{Bool}
 use mathlib.Core.List.{List, [], _∷_, _++_, map}
 use mathlib.Core.Option.{Option, none, some}
-use lib.Dec.{leb}
-use lib.ListN.{length, take, drop, replicate}
+use lib.ListN.{length, replicate}
 use Rattle.answer.specs.Numbers.{answer, accepted, invalidInstructionData}
-use Rattle.compact.specs.declared.Range.{Range}
 use Rattle.compact.specs.declared.Entry.{Entry}
 use Rattle.compact.specs.declared.Entries.{Entries}
-use Rattle.compact.specs.declared.Parsed.{Parsed}
+use Rattle.compact.specs.declared.ParsedInstructions.{ParsedInstructions}
 use Rattle.compact.specs.declared.Programs.{Programs}
 use Rattle.compact.specs.declared.Head.{Head}
 use Rattle.compact.specs.declared.Head.the-variants.{At, Short}
 use Rattle.compact.specs.Compact.{Instruction, Read, mostInstructions, encodeOne, decode}
 
--- the bytes of a source that a range names
-unfoldable pub part : List ℕ → Range → List ℕ
-part source r = take (r .len) (drop (r .start) source)
-
--- whether a range lies within a source: its start plus its length does not pass the end
-unfoldable pub within : List ℕ → Range → Bool
-within source r = leb (r .start + r .len) (length source)
-
--- the instruction that an entry means over a source
-unfoldable pub meant : List ℕ → Entry → Instruction
-meant source e = record { program = e .program; accounts = part source (e .accounts); payload = part source (e .payload) }
-
 -- the entry of an instruction whose encoding begins at a place
-unfoldable pub placedOne : ℕ → Instruction → Entry
-placedOne at i =
+unfoldable pub entryAt : ℕ → Instruction → Entry
+entryAt at i =
     record {
       program = i .program;
       accounts = record { start = at + 2; len = length (i .accounts) };
@@ -38,9 +23,9 @@ placedOne at i =
     }
 
 -- the entries of some instructions whose encodings follow one another from a place
-unfoldable pub placed : ℕ → List Instruction → List Entry
-placed at [] = []
-placed at (i ∷ is) = placedOne at i ∷ placed (at + length (encodeOne i)) is
+unfoldable pub entriesFrom : ℕ → List Instruction → List Entry
+entriesFrom at [] = []
+entriesFrom at (i ∷ is) = entryAt at i ∷ entriesFrom (at + length (encodeOne i)) is
 
 -- the entry of zeros, which stands past the last
 unfoldable pub zeroEntry : Entry
@@ -51,35 +36,23 @@ unfoldable pub entriesOf : List Entry → Entries
 entriesOf es = record { list = es ++ replicate (mostInstructions - length es) zeroEntry; count = length es }
 
 -- the refusal of reading: no list, nothing consumed
-unfoldable pub refused : Parsed
-refused = record { answer = answer invalidInstructionData; entries = entriesOf []; consumed = 0 }
+unfoldable pub readingRefused : ParsedInstructions
+readingRefused = record { answer = answer invalidInstructionData; entries = entriesOf []; consumed = 0 }
 
 -- reading: the entries of the list at the front, which begins after the count, and the bytes consumed
-unfoldable pub reading : List ℕ → Parsed
+unfoldable pub reading : List ℕ → ParsedInstructions
 reading bytes =
     elim (decode bytes) [
-      | none ↦ refused
-      | some d ↦ record { answer = answer accepted; entries = entriesOf (placed 1 (d .value)); consumed = length bytes - length (d .rest) }
+      | none ↦ readingRefused
+      | some d ↦ record { answer = answer accepted; entries = entriesOf (entriesFrom 1 (d .value)); consumed = length bytes - length (d .rest) }
     ]
 
--- the entries that a list holds
-unfoldable pub entriesIn : Entries → List Entry
-entriesIn l = take (l .count) (l .list)
-
--- the instructions that they mean over a source
-unfoldable pub listOf : List ℕ → Entries → List Instruction
-listOf source l = map (meant source) (entriesIn l)
-
--- the program indexes of the entries that a list holds
-unfoldable pub programsIn : Entries → List ℕ
-programsIn entries = map (λ (e : Entry). e .program) (entriesIn entries)
-
 -- what a judged call needs of a reading: the answer, and the program index of each entry, those of zeros past the last too
-unfoldable pub programsOf : Parsed → Programs
-programsOf p =
+unfoldable pub parsedPrograms : ParsedInstructions → Programs
+parsedPrograms p =
     record { answer = p .answer; list = map (λ (e : Entry). e .program) (p .entries .list); count = p .entries .count }
 
 -- the code's answer to reading one instruction at a place: its entry and the place after it
 unfoldable pub headOf : ℕ → Option (Read Instruction) → Head
 headOf at none = Short
-headOf at (some d) = At (placedOne at (d .value)) (at + length (encodeOne (d .value)))
+headOf at (some d) = At (entryAt at (d .value)) (at + length (encodeOne (d .value)))

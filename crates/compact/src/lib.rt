@@ -5,7 +5,8 @@ ghost use mathlib.Core.List.{[]};
 ghost use Prim.Native.Nat.{_≤_};
 ghost use lib.ListN.{length, take, drop};
 ghost use Rattle.compact.specs.Compact.{decodeOne};
-ghost use Rattle.compact.specs.Views.{entriesOf, reading, refused, programsOf, within, headOf};
+ghost use Rattle.compact.specs.Entries.{within};
+ghost use Rattle.compact.specs.Views.{entriesOf, reading, readingRefused, parsedPrograms, headOf};
 use answer::ACCEPTED;
 use answer::Answer;
 use answer::INVALID_INSTRUCTION_DATA;
@@ -29,7 +30,7 @@ pub struct Entries {
     pub count: usize,
 }
 
-pub struct Parsed {
+pub struct ParsedInstructions {
     pub answer: Answer,
     pub entries: Entries,
     pub consumed: usize,
@@ -65,12 +66,12 @@ impl Entries {
     }
 }
 
-fn refused() -> Parsed
-    ensures { λ r. ⌜ r ≡ refused ⌝ }
+fn refused() -> ParsedInstructions
+    ensures { λ r. ⌜ r ≡ readingRefused ⌝ }
 {
     let answer = Answer::of(INVALID_INSTRUCTION_DATA);
     let entries = Entries::none();
-    Parsed {
+    ParsedInstructions {
         answer,
         entries,
         consumed: 0,
@@ -112,7 +113,7 @@ fn head_at(bytes: &[u8], at: usize) -> Head
 }
 
 // The list at the front of `bytes`; what follows it is ignored.
-pub fn parse_compact_instructions(bytes: &[u8]) -> Parsed
+pub fn parse_compact_instructions(bytes: &[u8]) -> ParsedInstructions
     ensures { λ r. ⌜ r ≡ reading (now (bytes .entry)) ⌝ }
 {
     if bytes.len() < 1 {
@@ -136,7 +137,7 @@ pub fn parse_compact_instructions(bytes: &[u8]) -> Parsed
     }
     let answer = Answer::of(ACCEPTED);
     let entries = Entries { list, count };
-    Parsed {
+    ParsedInstructions {
         answer,
         entries,
         consumed: at,
@@ -144,7 +145,7 @@ pub fn parse_compact_instructions(bytes: &[u8]) -> Parsed
 }
 
 fn no_programs() -> Programs
-    ensures { λ r. ⌜ r ≡ programsOf refused ⌝ }
+    ensures { λ r. ⌜ r ≡ parsedPrograms readingRefused ⌝ }
 {
     let answer = Answer::of(INVALID_INSTRUCTION_DATA);
     Programs {
@@ -156,7 +157,7 @@ fn no_programs() -> Programs
 
 // What a judged call needs of the list at the front of `bytes`: the entries are not kept.
 pub fn parse_programs(bytes: &[u8]) -> Programs
-    ensures { λ r. ⌜ r ≡ programsOf (reading (now (bytes .entry))) ⌝ }
+    ensures { λ r. ⌜ r ≡ parsedPrograms (reading (now (bytes .entry))) ⌝ }
 {
     if bytes.len() < 1 {
         return no_programs();

@@ -10,8 +10,8 @@ use Rattle.answer.specs.Numbers.{answer, accepted, accepts, refuseIf, actionBuf
 use Rattle.answer.specs.Refusable.{Refusable, given, refused}
 use Rattle.answer.proofs.Laws.{rule-holds, rule-broken, no-rule}
 use Rattle.action.specs.Action.{Action}
-use Rattle.row.specs.Row.{actionsIn}
-use Rattle.region.specs.declared.Parsed.{Parsed}
+use Rattle.row.specs.Views.{actionsIn}
+use Rattle.region.specs.declared.ParsedActions.{ParsedActions}
 use Rattle.region.specs.Region.{cut, mostActions}
 use Rattle.region.specs.Views.{parsedOf}
 use Rattle.region.proofs.Cuts.{cut-refuses, rowIn, actions-of-parsed}
@@ -63,18 +63,18 @@ module _ (cutting : Answer) (l : List Action) where
 -- ---- a region that was parsed
 
 -- cutting a region, from what its row answers
-cut-of : (s : List ℕ) (p : Parsed) → p ≡ parsedOf (cut mostActions s) → (x : Refusable (List Action)) → cut mostActions s ≡ x
+cut-of : (s : List ℕ) (p : ParsedActions) → p ≡ parsedOf (cut mostActions s) → (x : Refusable (List Action)) → cut mostActions s ≡ x
     → (accepts (p .answer) ≡ true → cut mostActions s ≡ given (actionsIn s (rowIn p))) × (accepts (p .answer) ≡ false → cut mostActions s ≡ refused (p .answer))
 unfolding parsedOf
 cut-of s p e (given l) q =
     let whole : p ≡ parsedOf (given l) = e ∙ ap parsedOf q in
-    (λ h. q ∙ ap given (sym (ap (λ (x : Parsed). actionsIn s (rowIn x)) whole ∙ actions-of-parsed s l q)), λ h. absurd (let z : _≡_ {A = Bool} true false = ap (λ (x : Parsed). accepts (x .answer)) (sym whole) ∙ h in let n : _≡_ {A = ℕ} 0 1 = cc in omega arith))
+    (λ h. q ∙ ap given (sym (ap (λ (x : ParsedActions). actionsIn s (rowIn x)) whole ∙ actions-of-parsed s l q)), λ h. absurd (let z : _≡_ {A = Bool} true false = ap (λ (x : ParsedActions). accepts (x .answer)) (sym whole) ∙ h in let n : _≡_ {A = ℕ} 0 1 = cc in omega arith))
 cut-of s p e (refused r) q =
     let none : p ≡ parsedOf (refused r) = e ∙ ap parsedOf q in
     let why : r ≡ answer actionBufferInvalid = cut-refuses mostActions s r q in
-    (λ h. absurd (let z : _≡_ {A = Bool} false true = ap accepts (sym why) ∙ ap (λ (x : Parsed). accepts (x .answer)) (sym none) ∙ h in let n : _≡_ {A = ℕ} 0 1 = cc in omega arith), λ h. q ∙ ap refused (ap (λ (x : Parsed). x .answer) (sym none)))
+    (λ h. absurd (let z : _≡_ {A = Bool} false true = ap accepts (sym why) ∙ ap (λ (x : ParsedActions). accepts (x .answer)) (sym none) ∙ h in let n : _≡_ {A = ℕ} 0 1 = cc in omega arith), λ h. q ∙ ap refused (ap (λ (x : ParsedActions). x .answer) (sym none)))
 
-module _ (s : List ℕ) (p : Parsed) (e : p ≡ parsedOf (cut mostActions s)) where
+module _ (s : List ℕ) (p : ParsedActions) (e : p ≡ parsedOf (cut mostActions s)) where
   module _ (h : accepts (p .answer) ≡ true) where
     is-cut : cut mostActions s ≡ given (actionsIn s (rowIn p))
     is-cut = cut-of s p e (cut mostActions s) refl .0 h

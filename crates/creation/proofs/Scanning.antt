@@ -13,8 +13,8 @@ use Rattle.key.specs.Key.{sameKey}
 use Rattle.action.specs.declared.ActionView.{ActionView}
 use Rattle.action.specs.Action.{Action}
 use Rattle.action.specs.Fields.{isToken, keyOf}
-use Rattle.action.specs.Views.{zeroView, actionAt}
-use Rattle.row.specs.Row.{viewsOf, actionsIn, kindsIn}
+use Rattle.action.specs.Views.{zeroActionView, actionAt}
+use Rattle.row.specs.Views.{actionViews, actionsIn, kindsIn}
 use Rattle.row.proofs.Views.{actions-step, length-actions}
 use Rattle.creation.specs.declared.Rule.{Rule}
 use Rattle.creation.specs.Creation.{keeps, allKeep, howOften, kindsOf, mintAgain, mintRepeats}
@@ -22,11 +22,11 @@ use Rattle.creation.specs.Creation.{keeps, allKeep, howOften, kindsOf, m
 -- the types' codes are those of the actions
 pub kinds-of-actions : (s row : List ℕ) → kindsOf (actionsIn s row) ≡ kindsIn row
 unfolding actionsIn actionAt kindsIn
-kinds-of-actions s row = map-map (λ (a : Action). a .kind) (actionAt s) (viewsOf row)
+kinds-of-actions s row = map-map (λ (a : Action). a .kind) (actionAt s) (actionViews row)
 
 -- ---- past the last view
 
-module _ (s row : List ℕ) (i : ℕ) (past : length (viewsOf row) ≤ i) where
+module _ (s row : List ℕ) (i : ℕ) (past : length (actionViews row) ≤ i) where
   none-left : drop i (actionsIn s row) ≡ []
   none-left =
       let short : length (actionsIn s row) ≤ i = rw (length-actions s row) past in
@@ -44,23 +44,23 @@ module _ (s row : List ℕ) (i : ℕ) (past : length (viewsOf row) ≤ i) where
   unfolding mintRepeats
   repeats-end = rw none-left
 
-pub often-end : (row : List ℕ) (i : ℕ) (kind : ℕ) → length (viewsOf row) ≤ i → howOften kind (drop i (kindsIn row)) ≡ 0
+pub often-end : (row : List ℕ) (i : ℕ) (kind : ℕ) → length (actionViews row) ≤ i → howOften kind (drop i (kindsIn row)) ≡ 0
 unfolding howOften kindsIn
 often-end row i kind past =
-    let codes = map (λ (v : ActionView). v .kind) (viewsOf row) in
+    let codes = map (λ (v : ActionView). v .kind) (actionViews row) in
     let short : length codes ≤ i = simp length-map past in
     rw (drop-of-length-le codes short)
 
 -- ---- at the i-th view
 
-module _ (row : List ℕ) (i : ℕ) (v : ActionView) (here : v ≡ getD (viewsOf row) i zeroView) (h : i < length (viewsOf row)) where
+module _ (row : List ℕ) (i : ℕ) (v : ActionView) (here : v ≡ getD (actionViews row) i zeroActionView) (h : i < length (actionViews row)) where
   pub often-step : (kind : ℕ)
       → howOften kind (drop i (kindsIn row)) ≡ cond (eqb (v .kind) kind) 1 0 + howOften kind (drop (suc i) (kindsIn row))
   unfolding howOften kindsIn
   often-step kind =
-      let codes = map (λ (w : ActionView). w .kind) (viewsOf row) in
+      let codes = map (λ (w : ActionView). w .kind) (actionViews row) in
       let inside : i < length codes = simp length-map h in
-      rw (here, drop-cons codes i (zeroView .kind), List·getD-map (λ (w : ActionView). w .kind) (viewsOf row) i zeroView)
+      rw (here, drop-cons codes i (zeroActionView .kind), List·getD-map (λ (w : ActionView). w .kind) (actionViews row) i zeroActionView)
 
   pub often-once : (kind : ℕ) → v .kind ≡ kind → howOften kind (drop i (kindsIn row)) ≡ 1 + howOften kind (drop (suc i) (kindsIn row))
   often-once kind e = rw (eq-eqb _ _ e) at (often-step kind)
@@ -70,7 +70,7 @@ module _ (row : List ℕ) (i : ℕ) (v : ActionView) (here : v ≡ getD (viewsOf
 
   module _ (s : List ℕ) where
     step : drop i (actionsIn s row) ≡ actionAt s (v) ∷ drop (suc i) (actionsIn s row)
-    step = rw here (actions-step s row i zeroView h)
+    step = rw here (actions-step s row i zeroActionView h)
 
     pub keep-passed : (rule : Rule) → keeps rule (actionAt s v) ≡ true
         → allKeep rule (drop i (actionsIn s row)) ≡ allKeep rule (drop (suc i) (actionsIn s row))

@@ -31,7 +31,7 @@ ghost use lib.ListN.{drop};
 ghost use Rattle.key.specs.Key.{sameKey};
 ghost use Rattle.action.specs.Fields.{isToken, keyOf};
 ghost use Rattle.action.specs.Views.{actionAt};
-ghost use Rattle.row.specs.Row.{actionsIn, kindsIn};
+ghost use Rattle.row.specs.Views.{actionsIn, kindsIn};
 ghost use Rattle.creation.specs.Creation.{keeps as keepsRule, allKeep, howOften, bothLists, solRepeats, mintAgain, mintRepeats, formOf, creation};
 ghost use Rattle.creation.specs.Views.{storedAnswer};
 

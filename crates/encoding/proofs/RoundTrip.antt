@@ -11,7 +11,8 @@ use lib.Seq.{take-append-seam}
 use Rattle.answer.specs.Numbers.{answer, accepts, accepted}
 use Rattle.compact.specs.declared.Entries.{Entries}
 use Rattle.compact.specs.Compact.{Instruction, Writable, encode}
-use Rattle.compact.specs.Views.{placed, entriesOf, listOf, reading}
+use Rattle.compact.specs.Entries.{listOf}
+use Rattle.compact.specs.Views.{entriesFrom, entriesOf, reading}
 use Rattle.compact.proofs.Places.{encoded-means}
 use Rattle.compact.proofs.Lists.{short, reading-encoded}
 use Rattle.encoding.specs.Encoding.{encodable, writing, outputAfter}
@@ -20,11 +21,11 @@ use Rattle.encoding.proofs.Limits.{encoded-keeps}
 
 -- writing the entries of a list whose encoding lies at the front of the source
 writing-encoded : (is : List Instruction) (rest out : List ℕ) → Writable is → length (encode is) ≤ length out
-    → (writing (entriesOf (placed 1 is)) (encode is ++ rest) out ≡ record { answer = answer accepted; written = length (encode is) })
-    × (outputAfter (entriesOf (placed 1 is)) (encode is ++ rest) out ≡ encode is ++ drop (length (encode is)) out)
+    → (writing (entriesOf (entriesFrom 1 is)) (encode is ++ rest) out ≡ record { answer = answer accepted; written = length (encode is) })
+    × (outputAfter (entriesOf (entriesFrom 1 is)) (encode is ++ rest) out ≡ encode is ++ drop (length (encode is)) out)
 writing-encoded is rest out h room =
     let means = encoded-means is rest in
-    let done = written (entriesOf (placed 1 is)) (encode is ++ rest) out (encoded-keeps is rest (h .few) (h .each)) (rw means room) in
+    let done = written (entriesOf (entriesFrom 1 is)) (encode is ++ rest) out (encoded-keeps is rest (h .few) (h .each)) (rw means room) in
     (sym (rw means at (done .0)), sym (rw means at (done .1)))
 
 -- what it is that writing gives again what was read

@@ -9,7 +9,8 @@ use Rattle.answer.specs.Numbers.{answer, accepts, accepted}
 use Rattle.number.specs.Number.{Bytes}
 use Rattle.compact.specs.declared.Entries.{Entries}
 use Rattle.compact.specs.Compact.{encode}
-use Rattle.compact.specs.Views.{listOf, reading}
+use Rattle.compact.specs.Entries.{listOf}
+use Rattle.compact.specs.Views.{reading}
 use Rattle.compact.proofs.Places.{encoded-means}
 use Rattle.compact.proofs.Lists.{reading-encoded, accepted-begins}
 use Rattle.encoding.specs.Encoding.{encodable, writing, outputAfter}

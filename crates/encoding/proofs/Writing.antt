@@ -14,15 +14,16 @@ use lib.Seq.{length-take-le, drop-cons, getD-take, sets, sets-eq}
 use Rattle.answer.specs.Numbers.{answer, accepted, noRoom, notEncodable, firstRefusal}
 use Rattle.number.specs.Number.{bytesOf}
 use Rattle.number.proofs.Laws.{length-bytesOf}
+use Rattle.part.proofs.Laws.{length-part-there}
 use Rattle.compact.specs.declared.Entry.{Entry}
 use Rattle.compact.specs.declared.Entries.{Entries}
 use Rattle.compact.specs.Compact.{Instruction, mostInstructions, mostAccounts, mostPayload, encodeOne, encodeEach, encode}
-use Rattle.compact.specs.Views.{part, meant, entriesIn, listOf, within}
-use Rattle.compact.proofs.Parts.{length-part}
+use Rattle.compact.specs.Entries.{rangeBytes, meant, entriesIn, listOf, within}
 use Rattle.compact.proofs.Format.{length-encodeOne}
 use Rattle.encoding.specs.declared.Size.{Size}
 use Rattle.encoding.specs.declared.Size.the-variants.{Of, NotEncodable}
-use Rattle.encoding.specs.Encoding.{encodableOne, encodableEach, encodable, writingAnswer, writing, outputAfter, sizeIf}
+use Rattle.encoding.specs.Encoding.{encodableOne, encodableEach, encodable, writingAnswer, writing, outputAfter}
+use Rattle.encoding.specs.Views.{sizeIf}
 
 pub and-false : (t : Bool) → (t && false) ≡ false
 and-false true = refl
@@ -62,12 +63,12 @@ module _ (source : List ℕ) (e : Entry) where
 
   pub length-meant : within source (e .accounts) ≡ true → within source (e .payload) ≡ true
       → length (encodeOne (meant source e)) ≡ 4 + e .accounts .len + e .payload .len
-  unfolding meant part within
+  unfolding meant within
   length-meant ha hp =
       rw (
         length-encodeOne,
-        length-part (e .accounts .len) (e .accounts .start) source (leb-true _ _ ha),
-        length-part (e .payload .len) (e .payload .start) source (leb-true _ _ hp),
+        length-part-there source (e .accounts .start) (e .accounts .len) (leb-true _ _ ha),
+        length-part-there source (e .payload .start) (e .payload .len) (leb-true _ _ hp),
       )
 
   -- the size of an entry, by the first test that fails
@@ -175,15 +176,11 @@ number-turn out at width i n h =
     let next : at + (i + 1) ≡ suc (at + i) = omega arith in
     rw (more, next)
 
-pub part-turn : (out : List ℕ) (at : ℕ) (source : List ℕ) (start len i : ℕ) → i < len → start + len ≤ length source
-    → sets out (at + i) (take (len - i) (drop (start + i) source))
-    ≡ sets (set out (at + i) (getD source (start + i) 0)) (at + (i + 1)) (take (len - (i + 1)) (drop (start + (i + 1)) source))
-part-turn out at source start len i h fits =
-    let more : len - i ≡ suc (len - (i + 1)) = omega arith in
+pub part-turn : (out : List ℕ) (at : ℕ) (bytes : List ℕ) (i : ℕ) → i < length bytes
+    → sets out (at + i) (drop i bytes) ≡ sets (set out (at + i) (getD bytes i 0)) (at + (i + 1)) (drop (i + 1) bytes)
+part-turn out at bytes i h =
     let next : at + (i + 1) ≡ suc (at + i) = omega arith in
-    let after : start + (i + 1) ≡ suc (start + i) = omega arith in
-    let inside : start + i < length source = omega arith in
-    rw (more, next, after, drop-cons source (start + i) 0)
+    rw (next, add-one i, drop-cons bytes i 0)
 
 -- an entry that keeps the limits has its ranges' lengths
 pub length-kept : (source : List ℕ) (e : Entry) → Keeps source e → length (encodeOne (meant source e)) ≡ 4 + e .accounts .len + e .payload .len
@@ -198,19 +195,19 @@ low-byte n h = let low : n % 256 ≡ n = omega arith in rw low
 pub one-stored : (source : List ℕ) (e : Entry) (out : List ℕ) (at : ℕ) → Keeps source e
     → sets
     (sets
-    (sets (sets (set out at (e .program)) (at + 1) (bytesOf 1 (e .accounts .len))) (at + 2) (part source (e .accounts)))
+    (sets (sets (set out at (e .program)) (at + 1) (bytesOf 1 (e .accounts .len))) (at + 2) (rangeBytes source (e .accounts)))
     (at + 2 + e .accounts .len)
     (bytesOf 2 (e .payload .len)))
     (at + 2 + e .accounts .len + 2)
-    (part source (e .payload))
+    (rangeBytes source (e .payload))
     ≡ sets out at (encodeOne (meant source e))
-unfolding encodeOne meant part
+unfolding encodeOne meant
 one-stored source e out at k =
-    let accounts = take (e .accounts .len) (drop (e .accounts .start) source) in
-    let payload = take (e .payload .len) (drop (e .payload .start) source) in
+    let accounts = rangeBytes source (e .accounts) in
+    let payload = rangeBytes source (e .payload) in
     let size = bytesOf 2 (e .payload .len) in
-    let many : length accounts ≡ e .accounts .len = length-part (e .accounts .len) (e .accounts .start) source (k .accounts) in
-    let long : length payload ≡ e .payload .len = length-part (e .payload .len) (e .payload .start) source (k .payload) in
+    let many : length accounts ≡ e .accounts .len = length-part-there source (e .accounts .start) (e .accounts .len) (k .accounts) in
+    let long : length payload ≡ e .payload .len = length-part-there source (e .payload .start) (e .payload .len) (k .payload) in
     let runs = three-runs accounts size payload (set (set out at (e .program)) (suc at) (e .accounts .len)) (suc (suc at)) in
     rw (low-byte (e .accounts .len) (k .few), add-one at, add-two at, many, long)
     (rw (many, length-bytesOf 2 (e .payload .len)) at runs)

@@ -1,7 +1,7 @@
 -- Writing compact instructions: the limits, the answer, and the output afterwards.
 -- Assumes nothing.
 use Prim.Native.Nat.{ℕ}
-use mathlib.Core.Bool.{Bool, true, false, not, cond, _&&_}
+use mathlib.Core.Bool.{Bool, true, not, cond, _&&_}
 use mathlib.Core.List.{List, [], _∷_, _++_}
 use lib.Dec.{leb, ltb}
 use lib.ListN.{length, drop}
@@ -10,10 +10,8 @@ use Rattle.answer.specs.Numbers.{accepts, noRoom, notEncodable, firstRefusal, r
 use Rattle.compact.specs.declared.Entry.{Entry}
 use Rattle.compact.specs.declared.Entries.{Entries}
 use Rattle.compact.specs.Compact.{mostInstructions, mostAccounts, mostPayload, encode}
-use Rattle.compact.specs.Views.{entriesIn, listOf, within}
+use Rattle.compact.specs.Entries.{entriesIn, listOf, within}
 use Rattle.encoding.specs.declared.Written.{Written}
-use Rattle.encoding.specs.declared.Size.{Size}
-use Rattle.encoding.specs.declared.Size.the-variants.{Of, NotEncodable}
 
 -- whether an entry keeps the writer's limits
 unfoldable pub encodableOne : List ℕ → Entry → Bool
@@ -46,8 +44,3 @@ writing l source out =
 unfoldable pub outputAfter : Entries → List ℕ → List ℕ → List ℕ
 outputAfter l source out =
     cond (accepts (writingAnswer l source out)) (encode (listOf source l) ++ drop (length (encode (listOf source l))) out) out
-
--- the code's answer to sizing what is to be written: the size where the limits are kept
-unfoldable pub sizeIf : Bool → ℕ → Size
-sizeIf true size = Of size
-sizeIf false size = NotEncodable

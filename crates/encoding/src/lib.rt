@@ -7,8 +7,9 @@ ghost use lib.Seq.{sets};
 ghost use Rattle.answer.specs.Numbers.{answer};
 ghost use Rattle.number.specs.Number.{bytesOf};
 ghost use Rattle.compact.specs.Compact.{mostInstructions, encodeOne, encodeEach, encode};
-ghost use Rattle.compact.specs.Views.{part, meant, listOf, entriesIn};
-ghost use Rattle.encoding.specs.Encoding.{encodableOne, encodableEach, writing, outputAfter, sizeIf};
+ghost use Rattle.compact.specs.Entries.{rangeBytes, meant, listOf, entriesIn};
+ghost use Rattle.encoding.specs.Encoding.{encodableOne, encodableEach, writing, outputAfter};
+ghost use Rattle.encoding.specs.Views.{sizeIf};
 use answer::ACCEPTED;
 use answer::Answer;
 use answer::NO_ROOM;
@@ -18,6 +19,7 @@ use compact::Entry;
 use compact::MAX_COMPACT_INSTRUCTIONS;
 use compact::Range;
 use compact::within;
+use part::part_at;
 
 pub const MAX_ACCOUNTS: usize = 255;
 
@@ -89,16 +91,15 @@ fn put_number(out: &mut [u8], at: usize, width: usize, value: usize)
 // Writes the bytes that a range names at `at`, and gives the place after them.
 fn put_part(out: &mut [u8], at: usize, source: &[u8], range: Range) -> usize
     requires { ⌜ (range .start + range .len ≤ length (now source)) × (at + range .len ≤ length (now out)) ⌝ }
-    ensures { λ r. ⌜ (r ≡ at + range .len) × (now (out .exit) ≡ sets (now (out .entry)) at (part (now (source .entry)) range)) ⌝ }
+    ensures { λ r. ⌜ (r ≡ at + range .len) × (now (out .exit) ≡ sets (now (out .entry)) at (rangeBytes (now (source .entry)) range)) ⌝ }
 {
-    let start = range.start;
-    let len = range.len;
+    let bytes = part_at(source, range.start, range.len);
     let mut i = 0;
-    while i < len {
-        out[at + i] = source[start + i];
+    while i < bytes.len() {
+        out[at + i] = bytes[i];
         i += 1;
     }
-    at + len
+    at + bytes.len()
 }
 
 fn put_one(out: &mut [u8], at: usize, source: &[u8], entry: Entry) -> usize

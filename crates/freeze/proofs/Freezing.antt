@@ -4,38 +4,19 @@ use mathlib.Core.Path.{_≡_, refl, sym, ap, _∙_}
 use mathlib.Core.Bool.{Bool, true, false, not, _&&_, _||_, and-false}
 use mathlib.Core.List.{List, [], _∷_}
 use mathlib.Core.Option.{some}
-use Prim.Native.Nat.{ℕ, suc, _-_, _/_, _<_, _≤_, min}
-use native.Mathlib.Omega.{arith}
-use lib.ListN.{length, getD, take, drop, length-drop, drop-of-length-le}
-use lib.Seq.{take-all, take-nil}
+use Prim.Native.Nat.{ℕ, suc, _/_, _<_, _≤_, min}
+use lib.ListN.{length, getD, drop, drop-of-length-le}
 use Rattle.key.specs.declared.Key.{Key}
-use Rattle.key.specs.Key.{sameKey, sameBytes}
+use Rattle.key.specs.Key.{sameKey}
 use Rattle.keys.specs.declared.Keys.{Keys}
-use Rattle.keys.specs.Keys.{isAmong, keysIn}
+use Rattle.keys.specs.Views.{isAmong, keysIn}
 use Rattle.keys.proofs.Laws.{keys-step, keys-end}
 use Rattle.account.specs.declared.RecordView.{RecordView}
 use Rattle.account.specs.Record.{Record}
-use Rattle.account.specs.Views.{recordAt, viewsOf, recordsIn, zeroView}
+use Rattle.account.specs.Views.{recordAt, recordViews, recordsIn, zeroRecordView}
 use Rattle.account.proofs.Views.{records-step, length-records}
 use Rattle.token.specs.Tokens.{isTokenAccount, isCounted, mintOf}
 use Rattle.freeze.specs.Freeze.{firstWithKey, samePart, sameAuthorities, isStill, isFoundStill, keepsFreeze, allFrozen}
-
--- ---- parts
-
-pub part-none : (s : List ℕ) (at size : ℕ) → length s < at → [] ≡ take size (drop at s)
-part-none s at size h =
-    let past : length s ≤ at = omega arith in
-    sym (ap (take size) (drop-of-length-le s past) ∙ take-nil size)
-
-pub part-short : (s : List ℕ) (at size : ℕ) → at ≤ length s → length s - at < size → take (length s - at) (drop at s) ≡ take size (drop at s)
-part-short s at size h short =
-    let long : length (drop at s) ≤ length s - at = rw (length-drop at s) (omega arith) in
-    let small : length (drop at s) ≤ size = rw (length-drop at s) (omega arith) in
-    take-all (length s - at) (drop at s) long ∙ sym (take-all size (drop at s) small)
-
-pub part-compared : (at size : ℕ) (p q a b : List ℕ) → a ≡ take size (drop at p) → b ≡ take size (drop at q) → sameBytes a b ≡ samePart at size p q
-unfolding samePart
-part-compared at size p q a b pa qb = rw (← pa, ← qb)
 
 -- ---- authorities
 
@@ -64,9 +45,9 @@ module _ (p : List ℕ) (q : Record) where
 
 -- ---- the first record with a key
 
-seen-step : (s row : List ℕ) (i : ℕ) (v : RecordView) → v ≡ getD (viewsOf row) i zeroView → i < length row / 2
+seen-step : (s row : List ℕ) (i : ℕ) (v : RecordView) → v ≡ getD (recordViews row) i zeroRecordView → i < length row / 2
     → drop i (recordsIn s row) ≡ recordAt s v ∷ drop (suc i) (recordsIn s row)
-seen-step s row i v ev inside = rw ev (records-step s row i zeroView inside)
+seen-step s row i v ev inside = rw ev (records-step s row i zeroRecordView inside)
 
 found : (key : List ℕ) (r : Record) (l : List Record) → sameKey (r .key) key ≡ true → firstWithKey key (r ∷ l) ≡ some r
 unfolding firstWithKey
@@ -77,7 +58,7 @@ unfolding firstWithKey
 passed key r l e = rw (e, firstWithKey)
 
 module _ (p key s row : List ℕ) (i : ℕ) where
-  module _ (v : RecordView) (ev : v ≡ getD (viewsOf row) i zeroView) (inside : i < length row / 2) where
+  module _ (v : RecordView) (ev : v ≡ getD (recordViews row) i zeroRecordView) (inside : i < length row / 2) where
     pub still-found : sameKey ((recordAt s v) .key) key ≡ true
         → isFoundStill p (firstWithKey key (drop i (recordsIn s row))) ≡ isStill p (recordAt s v)
     still-found e = ap (λ (l : List Record). isFoundStill p (firstWithKey key l)) (seen-step s row i v ev inside) ∙ ap (isFoundStill p) (found key _ _ e)
@@ -111,7 +92,7 @@ module _ (vault : List ℕ) (listed : List ℕ → Bool) (after : List Record) (
 -- ---- all records
 
 module _ (vault : List ℕ) (listed : List ℕ → Bool) (after : List Record) (s row : List ℕ) (i : ℕ) where
-  module _ (v : RecordView) (ev : v ≡ getD (viewsOf row) i zeroView) (inside : i < length row / 2) where
+  module _ (v : RecordView) (ev : v ≡ getD (recordViews row) i zeroRecordView) (inside : i < length row / 2) where
     pub frozen-passed : keepsFreeze vault listed after (recordAt s v) ≡ true
         → allFrozen vault listed after (drop i (recordsIn s row)) ≡ allFrozen vault listed after (drop (suc i) (recordsIn s row))
     unfolding allFrozen

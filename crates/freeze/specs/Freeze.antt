@@ -4,7 +4,7 @@ use Prim.Native.Nat.{ℕ}
 use mathlib.Core.Bool.{Bool, true, false, not, _&&_, _||_}
 use mathlib.Core.List.{List, [], _∷_}
 use mathlib.Core.Option.{Option, none, some}
-use lib.ListN.{take, drop}
+use Rattle.part.specs.Part.{partAt}
 use Rattle.key.specs.Key.{sameKey, sameBytes}
 use Rattle.account.specs.Record.{Record}
 use Rattle.token.specs.Tokens.{isTokenAccount, isCounted, mintOf}
@@ -16,7 +16,7 @@ firstWithKey key (r ∷ l) = elim (sameKey (r .key) key) [ true ↦ some r | fal
 
 -- a part of two accounts' data is the same
 unfoldable pub samePart : ℕ → ℕ → List ℕ → List ℕ → Bool
-samePart at size p q = sameBytes (take size (drop at p)) (take size (drop at q))
+samePart at size p q = sameBytes (partAt p at size) (partAt q at size)
 
 -- the frozen fields of two token accounts' data are the same: owner (32..64), delegate (72..108), close authority (129..165)
 unfoldable pub sameAuthorities : List ℕ → List ℕ → Bool

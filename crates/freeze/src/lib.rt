@@ -7,15 +7,15 @@ use key::KEY_LENGTH;
 use key::Key;
 use keys::Keys;
 use keys::MAX_KEYS;
+use part::part_at;
 use token::is_counted;
 use token::is_token_account;
 use token::mint_of;
 ghost use mathlib.Core.Path.{_≡_};
 ghost use mathlib.Core.List.{List};
 ghost use Prim.Native.Nat.{ℕ};
-ghost use lib.ListN.{take, drop};
 ghost use Rattle.key.specs.Key.{sameKey};
-ghost use Rattle.keys.specs.Keys.{isAmong, keysIn};
+ghost use Rattle.keys.specs.Views.{isAmong, keysIn};
 ghost use Rattle.account.specs.Views.{recordAt, recordsIn};
 ghost use Rattle.freeze.specs.Freeze.{firstWithKey, samePart, sameAuthorities, isStill, isFoundStill, keepsFreeze, allFrozen};
 
@@ -27,23 +27,10 @@ const CLOSE_AUTHORITY_OFFSET: usize = 129;
 
 const AUTHORITY_LENGTH: usize = 36;
 
-// The `size` bytes from `at` on, as far as they are there.
-fn part_of(bytes: &[u8], at: usize, size: usize) -> &[u8]
-    ensures { λ r. ⌜ now r ≡ take size (drop at (now (bytes .entry))) ⌝ }
-{
-    if bytes.len() < at {
-        return &bytes[..0];
-    }
-    if bytes.len() - at < size {
-        return &bytes[at..];
-    }
-    &bytes[at..at + size]
-}
-
 fn same_part(a: &[u8], b: &[u8], at: usize, size: usize) -> bool
     ensures { λ r. ⌜ r ≡ samePart at size (now (a .entry)) (now (b .entry)) ⌝ }
 {
-    key::same_bytes(part_of(a, at, size), part_of(b, at, size))
+    key::same_bytes(part_at(a, at, size), part_at(b, at, size))
 }
 
 fn same_authorities(a: &[u8], b: &[u8]) -> bool

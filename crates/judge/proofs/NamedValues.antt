@@ -9,7 +9,7 @@ use Rattle.key.specs.Key.{sameKey, sameBytes}
 use Rattle.action.specs.Action.{dataLength, sizeAmong, expired}
 use Rattle.action.specs.Fields.{isToken, isRecurring, keyOf, amountsOf}
 use Rattle.change.specs.Changed.{changed}
-use Rattle.region.specs.Region.{glue, glueOne, cut, first, statedLength}
+use Rattle.region.specs.Region.{glue, glueOne, cut, first, headerDataLength}
 use Rattle.creation.specs.Creation.{formOf, allKeep, keeps, bothLists, solRepeats, howOften, mintRepeats, mintAgain, inStoredForm, storedActions}
 use Rattle.creation.specs.NamedValues.{namedValues as creationValues}
 use Rattle.creation.proofs.NamedValues.{as-named as creation-as-named}
@@ -31,7 +31,7 @@ both [] ws a b = b
 both (v ∷ vs) ws a b = (a .0, both vs ws (a .1) b)
 
 calls-as-named : AsNamed callValues
-unfolding callValues one left recurring called spending outcome judged regionAfter steps soundness rules charged amountFor recordsBefore recordsAfter programsAnswer allFrozen classAnswer ofClass isSol ruleAnswer breaks above base windowOver refusalOf settled changeOf liveChange isLimit spentChange changed storedActions inStoredForm formOf allKeep keeps bothLists solRepeats howOften mintRepeats mintAgain isToken isRecurring keyOf amountsOf isListed expired cut first statedLength dataLength sizeAmong glue glueOne number bytesOf numberAt cappedSum flooredDifference withNumberAt highest firstRefusal sameKey sameBytes cutTable cutRecords firstRecord balance mostInstructions byte front decodeOne decodeEach decode
+unfolding callValues one left recurring called spending outcome judged regionAfter steps soundness rules charged amountFor recordsBefore recordsAfter programsAnswer allFrozen classAnswer ofClass isSol ruleAnswer breaks above base windowOver refusalOf settled changeOf liveChange isLimit spentChange changed storedActions inStoredForm formOf allKeep keeps bothLists solRepeats howOften mintRepeats mintAgain isToken isRecurring keyOf amountsOf isListed expired cut first headerDataLength dataLength sizeAmong glue glueOne number bytesOf numberAt cappedSum flooredDifference withNumberAt highest firstRefusal sameKey sameBytes cutTable cutRecords firstRecord balance mostInstructions byte front decodeOne decodeEach decode
 calls-as-named = (refl, (refl, (refl, (refl, (refl, (refl, (refl, (refl, (refl, (refl, (refl, (refl, (refl, tt)))))))))))))
 
 pub as-named : AsNamed namedValues

@@ -16,25 +16,26 @@ use Rattle.answer.specs.Refusable.{Refusable, given, refused}
 use Rattle.answer.proofs.Laws.{first-passes, first-refuses, rule-holds, rule-broken, no-rule, only, first-append}
 use Rattle.number.specs.Number.{Bytes}
 use Rattle.keys.specs.declared.Keys.{Keys}
-use Rattle.keys.specs.Keys.{isAmong, keysIn}
+use Rattle.keys.specs.Views.{isAmong, keysIn}
 use Rattle.action.specs.Action.{Action}
-use Rattle.row.specs.Row.{viewsOf, actionsIn}
-use Rattle.region.specs.declared.Parsed.{Parsed}
+use Rattle.row.specs.Views.{actionViews, actionsIn}
+use Rattle.region.specs.declared.ParsedActions.{ParsedActions}
 use Rattle.region.specs.Region.{cut, glue, mostActions}
-use Rattle.region.specs.Views.{placed as placedAt, parsedOf}
+use Rattle.region.specs.Views.{actionViewsFrom, parsedOf}
 use Rattle.region.proofs.Cuts.{cut-cuts, cut-at-most, rowIn, views-of-parsed, actions-of-parsed}
 use Rattle.creation.specs.Creation.{inStoredForm, storedActions}
 use Rattle.creation.specs.Views.{storedAnswer}
 use Rattle.creation.proofs.Forms.{stored-by-answer}
 use Rattle.creation.proofs.Theorems.{stored-is-formed, stored-is-glued}
-use Rattle.mints.specs.Mints.{isListed, listedMints}
+use Rattle.mints.specs.Mints.{isListed}
+use Rattle.mints.specs.Views.{listedMints}
 use Rattle.mints.proofs.Held.{listed-mints-hold}
 use Rattle.compact.specs.declared.Entry.{Entry}
-use Rattle.compact.specs.declared.Parsed.{Parsed as ReadList}
+use Rattle.compact.specs.declared.ParsedInstructions.{ParsedInstructions}
 use Rattle.compact.specs.declared.Programs.{Programs}
 use Rattle.compact.specs.Compact.{Instruction, Read, decode}
-use Rattle.compact.specs.Views.{reading, placed, placedOne, programsIn, programsOf as indexesOf, refused as noList}
-use Rattle.compact.proofs.Indexes.{programs-counted, programs-answer}
+use Rattle.compact.specs.Views.{reading, entriesFrom, entryAt, parsedPrograms, readingRefused}
+use Rattle.compact.proofs.Indexes.{programsIn, programs-counted, programs-answer}
 use Rattle.compact.proofs.Places.{entries-held}
 use Rattle.compact.proofs.Reading.{reading-of, outcome}
 use Rattle.account.specs.Record.{Record}
@@ -45,6 +46,7 @@ use Rattle.table.specs.Views.{placesOf}
 use Rattle.table.proofs.Views.{records-of-places}
 use Rattle.balance.specs.Views.{sumsOf}
 use Rattle.limit.specs.Limit.{Charge, settled}
+use Rattle.charge.specs.declared.Class.the-variants.{Sol, Tokens}
 use Rattle.charge.specs.Classes.{classAnswer}
 use Rattle.charge.specs.Views.{charges, chargesAt, settledAt}
 use Rattle.charge.proofs.Charging.{charges-map, settle-end, settle-all}
@@ -53,7 +55,7 @@ use Rattle.programs.specs.Programs.{programsAnswer}
 use Rattle.freeze.specs.Freeze.{allFrozen}
 use Rattle.freeze.proofs.Freezing.{frozen-alike}
 use Rattle.outflow.specs.Outflow.{decrease, amountFrom}
-use Rattle.judge.specs.Judge.{Call, answerOf, recordsBefore, recordsAfter, programsOf, readAnswer, actionsOf, amountFor, charged, soundness, rules, steps, judged, regionAfter}
+use Rattle.judge.specs.Judge.{Call, answerOf, recordsBefore, recordsAfter, programIndexes, instructionsAnswer, actionsOf, amountFor, charged, soundness, rules, steps, judged, regionAfter}
 use Rattle.judge.specs.Views.{frozenFrom, checksFrom, limitsFrom, rulesFrom}
 
 -- ---- steps 5 to 8, from what was cut
@@ -73,11 +75,11 @@ module _ (slot : ℕ) (vault : List ℕ) (before after : List Record) (programs 
     checks-passed f = first-passes _ _ e ∙ rule-holds _ _ _ (ap not f) ∙ no-rule
 
 module _ (slot : ℕ) (cs : List Charge) where
-  pub limits-refused : accepts (classAnswer false slot cs) ≡ false → limitsFrom slot cs ≡ classAnswer false slot cs
+  pub limits-refused : accepts (classAnswer Sol slot cs) ≡ false → limitsFrom slot cs ≡ classAnswer Sol slot cs
   unfolding limitsFrom
   limits-refused e = first-refuses _ _ e
 
-  pub limits-decided : accepts (classAnswer false slot cs) ≡ true → limitsFrom slot cs ≡ classAnswer true slot cs
+  pub limits-decided : accepts (classAnswer Sol slot cs) ≡ true → limitsFrom slot cs ≡ classAnswer Tokens slot cs
   unfolding limitsFrom
   limits-decided e = first-passes _ _ e ∙ only _
 
@@ -112,37 +114,37 @@ module _ (a : Answer) (out s : List ℕ) where
 
 -- ---- what was cut
 
-pub no-views-settled : (slot : ℕ) (row amounts s : List ℕ) → length (viewsOf row) ≤ 0 → settledAt slot row amounts s ≡ s
+pub no-views-settled : (slot : ℕ) (row amounts s : List ℕ) → length (actionViews row) ≤ 0 → settledAt slot row amounts s ≡ s
 no-views-settled slot row amounts s few = settle-all slot row amounts s ∙ settle-end slot row amounts 0 s (omega arith)
 
-programs-placed : (at : ℕ) (is : List Instruction) → map (λ (e : Entry). e .program) (placed at is) ≡ map (λ (i : Instruction). i .program) is
-unfolding placed placedOne
+programs-placed : (at : ℕ) (is : List Instruction) → map (λ (e : Entry). e .program) (entriesFrom at is) ≡ map (λ (i : Instruction). i .program) is
+unfolding entriesFrom entryAt
 programs-placed at [] = refl
 programs-placed at (i ∷ is) = ap (λ (l : List ℕ). i .program ∷ l) (programs-placed _ is)
 
-entries-read : (s : List ℕ) → programsIn (reading s .entries) ≡ programsOf (decode s)
-unfolding programsIn outcome noList
+entries-read : (s : List ℕ) → programsIn (reading s .entries) ≡ programIndexes (decode s)
+unfolding programsIn outcome readingRefused
 entries-read s = go (decode s) refl
   where
-    go : (o : Option (Read (List Instruction))) → decode s ≡ o → programsIn (reading s .entries) ≡ programsOf o
-    go none e = ap (λ (r : ReadList). programsIn (r .entries)) (reading-of s none e) ∙ ap (map (λ (x : Entry). x .program)) (entries-held [])
+    go : (o : Option (Read (List Instruction))) → decode s ≡ o → programsIn (reading s .entries) ≡ programIndexes o
+    go none e = ap (λ (r : ParsedInstructions). programsIn (r .entries)) (reading-of s none e) ∙ ap (map (λ (x : Entry). x .program)) (entries-held [])
     go (some d) e =
-        ap (λ (r : ReadList). programsIn (r .entries)) (reading-of s (some d) e)
-        ∙ ap (map (λ (x : Entry). x .program)) (entries-held (placed 1 (d .value)))
+        ap (λ (r : ParsedInstructions). programsIn (r .entries)) (reading-of s (some d) e)
+        ∙ ap (map (λ (x : Entry). x .program)) (entries-held (entriesFrom 1 (d .value)))
         ∙ programs-placed 1 (d .value)
 
 -- the row of program indexes that was read is that of the list
-pub programs-read : (s : List ℕ) (p : Programs) (row : List ℕ) → p ≡ indexesOf (reading s) → row ≡ take (p .count) (p .list) → row ≡ programsOf (decode s)
+pub programs-read : (s : List ℕ) (p : Programs) (row : List ℕ) → p ≡ parsedPrograms (reading s) → row ≡ take (p .count) (p .list) → row ≡ programIndexes (decode s)
 programs-read s p row e r =
     r ∙ ap (λ (x : Programs). take (x .count) (x .list)) e ∙ programs-counted (reading s) ∙ entries-read s
 
-pub read-answer : (s : List ℕ) (p : Programs) → p ≡ indexesOf (reading s) → p .answer ≡ readAnswer (decode s)
-unfolding outcome noList
-read-answer s p e = ap (λ (x : Programs). x .answer) e ∙ programs-answer (reading s) ∙ go (decode s) refl
+pub instructions-answer : (s : List ℕ) (p : Programs) → p ≡ parsedPrograms (reading s) → p .answer ≡ instructionsAnswer (decode s)
+unfolding outcome readingRefused
+instructions-answer s p e = ap (λ (x : Programs). x .answer) e ∙ programs-answer (reading s) ∙ go (decode s) refl
   where
-    go : (o : Option (Read (List Instruction))) → decode s ≡ o → reading s .answer ≡ readAnswer o
-    go none q = ap (λ (r : ReadList). r .answer) (reading-of s none q)
-    go (some d) q = ap (λ (r : ReadList). r .answer) (reading-of s (some d) q)
+    go : (o : Option (Read (List Instruction))) → decode s ≡ o → reading s .answer ≡ instructionsAnswer o
+    go none q = ap (λ (r : ParsedInstructions). r .answer) (reading-of s none q)
+    go (some d) q = ap (λ (r : ParsedInstructions). r .answer) (reading-of s (some d) q)
 
 -- the records of a row are those of the table that was cut into it
 pub records-of-row : (s : List ℕ) (p : Places) (row : List ℕ) → p ≡ placesOf (cutTable s) → row ≡ take (2 * p .count) (p .list) → recordsIn s row ≡ recordsOf (cutTable s)
@@ -163,7 +165,7 @@ table-answer (given l) = refl
 table-answer (refused r) = refl
 
 -- what is answered to a region that was cut is the answer of its stored form
-pub region-answer : (s : List ℕ) (p : Parsed) (row : List ℕ) (a : Answer) → p ≡ parsedOf (cut mostActions s) → row ≡ rowIn p
+pub region-answer : (s : List ℕ) (p : ParsedActions) (row : List ℕ) (a : Answer) → p ≡ parsedOf (cut mostActions s) → row ≡ rowIn p
     → a ≡ storedAnswer (p .answer) (actionsIn s row) → a ≡ answerOf (storedActions s)
 unfolding storedAnswer
 region-answer s p row a ep er ea =
@@ -224,16 +226,16 @@ charges-are call l few = ap (charges l) (amounts-there call l few) ∙ charges-m
 module _ (call : Call) where
   rules-are : (l : List Action)
       → frozenFrom (call .vault) (recordsBefore call) (recordsAfter call) (listedMints l) ≡ allFrozen (call .vault) (λ (mint : List ℕ). isListed mint l) (recordsAfter call) (recordsBefore call)
-      → rulesFrom (call .slot) (call .vault) (recordsBefore call) (recordsAfter call) (programsOf (decode (call .instructions))) (charged call l) l
+      → rulesFrom (call .slot) (call .vault) (recordsBefore call) (recordsAfter call) (programIndexes (decode (call .instructions))) (charged call l) l
       ≡ firstRefusal (elim l [ [] ↦ [] | a ∷ k ↦ rules call (a ∷ k) ])
   unfolding rulesFrom checksFrom limitsFrom rules
   rules-are [] e = sym no-rule
   rules-are (a ∷ k) e =
       let l = a ∷ k in
-      let programs = programsAnswer (call .slot) l (recordsBefore call) (programsOf (decode (call .instructions))) in
+      let programs = programsAnswer (call .slot) l (recordsBefore call) (programIndexes (decode (call .instructions))) in
       let freeze = refuseIf (not (allFrozen (call .vault) (λ (mint : List ℕ). isListed mint l) (recordsAfter call) (recordsBefore call))) sessionTokenAuthorityChanged in
       rw e
-      (sym (first-append (programs ∷ freeze ∷ []) (classAnswer false (call .slot) (charged call l) ∷ classAnswer true (call .slot) (charged call l) ∷ [])))
+      (sym (first-append (programs ∷ freeze ∷ []) (classAnswer Sol (call .slot) (charged call l) ∷ classAnswer Tokens (call .slot) (charged call l) ∷ [])))
 
 -- ---- a region in stored form
 
@@ -249,7 +251,7 @@ module _ (region : List ℕ) (call : Call) (l : List Action) (stored : storedAct
       (λ m. listed-mints-hold m l (stored-is-formed region l stored .1 .lengths) at-most-16)
       (recordsAfter call) (recordsBefore call)
 
-  settled-are : Bytes region → (row : List ℕ) → viewsOf row ≡ placedAt 0 l
+  settled-are : Bytes region → (row : List ℕ) → actionViews row ≡ actionViewsFrom 0 l
       → settledAt (call .slot) row (amountsFor call l) region ≡ glue (map (settled (call .slot)) (charged call l))
   settled-are bytes row views =
       let amounts = amountsFor call l in
@@ -288,12 +290,12 @@ module _ (region : List ℕ) (call : Call) where
       after-refused h = refuses _ (rule-holds _ _ _ (ap not (eq-eqb _ _ v)) ∙ first-passes _ _ b ∙ first-refuses _ _ h) h
 
       module _ (a : accepts (answerOf (cutTable (call .after))) ≡ true) where
-        pub instructions-refused : accepts (readAnswer (decode (call .instructions))) ≡ false
-            → (readAnswer (decode (call .instructions)) ≡ judged region call) × (region ≡ regionAfter region call)
+        pub instructions-refused : accepts (instructionsAnswer (decode (call .instructions))) ≡ false
+            → (instructionsAnswer (decode (call .instructions)) ≡ judged region call) × (region ≡ regionAfter region call)
         unfolding judged steps soundness
         instructions-refused h = refuses _ (rule-holds _ _ _ (ap not (eq-eqb _ _ v)) ∙ first-passes _ _ b ∙ first-passes _ _ a ∙ first-refuses _ _ h) h
 
-        module _ (i : accepts (readAnswer (decode (call .instructions))) ≡ true) where
+        module _ (i : accepts (instructionsAnswer (decode (call .instructions))) ≡ true) where
           pub region-refused : accepts (answerOf (storedActions region)) ≡ false
               → (answerOf (storedActions region) ≡ judged region call) × (region ≡ regionAfter region call)
           unfolding judged steps soundness
@@ -308,9 +310,9 @@ module _ (region : List ℕ) (call : Call) where
 
           module _ (r : accepts (answerOf (storedActions region)) ≡ true) (bytes : Bytes region) where
             -- what is answered and written of what was cut is what the call answers and writes
-            pub judged-cut : (answered : Answer) (out : List ℕ) (p : Parsed) (row : List ℕ) (before after : List Record) (programs : List ℕ) (sol : ℕ)
+            pub judged-cut : (answered : Answer) (out : List ℕ) (p : ParsedActions) (row : List ℕ) (before after : List Record) (programs : List ℕ) (sol : ℕ)
                 → p ≡ parsedOf (cut mostActions region) → row ≡ rowIn p → before ≡ recordsBefore call → after ≡ recordsAfter call
-                → programs ≡ programsOf (decode (call .instructions)) → sol ≡ decrease (call .lamportsBefore) (call .lamportsAfter)
+                → programs ≡ programIndexes (decode (call .instructions)) → sol ≡ decrease (call .lamportsBefore) (call .lamportsAfter)
                 → answered ≡ rulesFrom (call .slot) (call .vault) before after programs (chargesAt region row (amountsFrom call before after sol (actionsIn region row))) (actionsIn region row)
                 → out ≡ cond (accepts answered) (settledAt (call .slot) row (amountsFrom call before after sol (actionsIn region row)) region) region
                 → (answered ≡ judged region call) × (out ≡ regionAfter region call)
@@ -321,10 +323,10 @@ module _ (region : List ℕ) (call : Call) where
                 let formed = stored-is-formed region l stored .0 in
                 let whole : row ≡ rowIn (parsedOf (given l)) = er ∙ ap rowIn (ep ∙ ap parsedOf formed) in
                 let named : actionsIn region row ≡ l = ap (actionsIn region) whole ∙ actions-of-parsed region l formed in
-                let views : viewsOf row ≡ placedAt 0 l = ap viewsOf whole ∙ views-of-parsed region l formed in
+                let views : actionViews row ≡ actionViewsFrom 0 l = ap actionViews whole ∙ views-of-parsed region l formed in
                 let cs : chargesAt region row amounts ≡ charged call l = rw (named, eb, ea, es) (charges-are call l (at-most-16 region call l stored)) in
                 let rules-said : rulesFrom (call .slot) (call .vault) before after programs (chargesAt region row amounts) (actionsIn region row)
-                ≡ rulesFrom (call .slot) (call .vault) (recordsBefore call) (recordsAfter call) (programsOf (decode (call .instructions))) (charged call l) l =
+                ≡ rulesFrom (call .slot) (call .vault) (recordsBefore call) (recordsAfter call) (programIndexes (decode (call .instructions))) (charged call l) l =
                 rw (cs, named, eb, ea, eq) in
                 let all : judged region call ≡ firstRefusal (elim l [ [] ↦ [] | a ∷ k ↦ rules call (a ∷ k) ]) =
                 judged-soundly r ∙ ap (λ (x : Refusable (List Action)). firstRefusal (elim (actionsOf x) [ [] ↦ [] | a ∷ k ↦ rules call (a ∷ k) ])) stored in

@@ -29,11 +29,13 @@ use Rattle.table.specs.Table.{cutTable}
 use Rattle.table.proofs.Theorems.{every-refusal-of-a-table-is-13}
 use Rattle.lookup.specs.Indexes.{keyAmong}
 use Rattle.limit.specs.Limit.{Charge, refusalOf, breaks, ruleAnswer, changeOf, settled}
+use Rattle.charge.specs.declared.Class.{Class}
+use Rattle.charge.specs.declared.Class.the-variants.{Sol, Tokens}
 use Rattle.charge.specs.Classes.{ofClass, classAnswer}
 use Rattle.charge.proofs.Accepting.{EachKept, each-kept}
 use Rattle.programs.specs.Programs.{inLiveList, listsAnswer, programAnswer, programsAnswer}
 use Rattle.freeze.specs.Freeze.{allFrozen}
-use Rattle.judge.specs.Judge.{Call, answerOf, recordsBefore, recordsAfter, programsOf, readAnswer, actionsOf, amountFor, charged, soundness, rules, steps, judged, regionAfter}
+use Rattle.judge.specs.Judge.{Call, answerOf, recordsBefore, recordsAfter, programIndexes, instructionsAnswer, actionsOf, amountFor, charged, soundness, rules, steps, judged, regionAfter}
 use Rattle.judge.proofs.Steps.{refused-keeps, stored-refusal}
 
 -- a refusal leaves the region as it was
@@ -79,12 +81,12 @@ module _ (most : ℕ) (enough : 13 ≤ most) where
   rule-listed true n h = h
   rule-listed false n h = omega arith
 
-  class-listed : (tokens : Bool) (slot : ℕ) (cs : List Charge) → Listed (classAnswer tokens slot cs)
+  class-listed : (class : Class) (slot : ℕ) (cs : List Charge) → Listed (classAnswer class slot cs)
   unfolding classAnswer ruleAnswer
-  class-listed tokens slot cs = first-listed _ (each-listed _ one cs)
+  class-listed class slot cs = first-listed _ (each-listed _ one cs)
     where
-      one : (c : Charge) → Listed (cond (ofClass tokens (c .act .kind)) (ruleAnswer slot c) (answer accepted))
-      one c = go (ofClass tokens (c .act .kind))
+      one : (c : Charge) → Listed (cond (ofClass class (c .act .kind)) (ruleAnswer slot c) (answer accepted))
+      one c = go (ofClass class (c .act .kind))
         where
           go : (b : Bool) → Listed (cond b (ruleAnswer slot c) (answer accepted))
           go true = rule-listed (breaks slot (c .amount) (c .act)) (refusalOf (c .act .kind)) (refusal-listed (c .act .kind))
@@ -114,7 +116,7 @@ module _ (most : ℕ) (enough : 13 ≤ most) where
       go (given l) e = omega arith
       go (refused r) e = subst Listed (sym (every-refusal-of-a-table-is-13 s r e)) (omega arith)
 
-  read-listed : (o : Option (Read (List Instruction))) → Listed (readAnswer o)
+  read-listed : (o : Option (Read (List Instruction))) → Listed (instructionsAnswer o)
   read-listed none = omega arith
   read-listed (some d) = omega arith
 
@@ -125,7 +127,7 @@ module _ (most : ℕ) (enough : 13 ≤ most) where
     where
       ruled : (l : List Action) → AllListed (elim l [ [] ↦ [] | a ∷ k ↦ rules call (a ∷ k) ])
       ruled [] = tt
-      ruled (a ∷ k) = (programs-listed (call .slot) (a ∷ k) (recordsBefore call) (programsOf (decode (call .instructions))), (rule-listed (not (allFrozen (call .vault) (λ (mint : List ℕ). isListed mint (a ∷ k)) (recordsAfter call) (recordsBefore call))) 12 (omega arith), (class-listed false (call .slot) (charged call (a ∷ k)), (class-listed true (call .slot) (charged call (a ∷ k)), tt))))
+      ruled (a ∷ k) = (programs-listed (call .slot) (a ∷ k) (recordsBefore call) (programIndexes (decode (call .instructions))), (rule-listed (not (allFrozen (call .vault) (λ (mint : List ℕ). isListed mint (a ∷ k)) (recordsAfter call) (recordsBefore call))) 12 (omega arith), (class-listed Sol (call .slot) (charged call (a ∷ k)), (class-listed Tokens (call .slot) (charged call (a ∷ k)), tt))))
 
   answer-listed : (region : List ℕ) (call : Call) → Listed (answerOf (storedActions region)) → Listed (judged region call)
   unfolding judged

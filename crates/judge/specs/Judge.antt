@@ -1,7 +1,7 @@
 -- The judged call: nine steps, the first failure decides, and only an accepted call writes.
 -- Assumes nothing.
 use Prim.Native.Nat.{ℕ}
-use mathlib.Core.Bool.{true, false, not, cond}
+use mathlib.Core.Bool.{not, cond}
 use mathlib.Core.List.{List, [], _∷_, _++_, map}
 use mathlib.Core.Option.{Option, none, some}
 use lib.Dec.{eqb}
@@ -18,6 +18,7 @@ use Rattle.compact.specs.Compact.{Instruction, Read, decode}
 use Rattle.account.specs.Record.{Record}
 use Rattle.table.specs.Table.{cutTable, recordsOf}
 use Rattle.limit.specs.Limit.{Charge, settled}
+use Rattle.charge.specs.declared.Class.the-variants.{Sol, Tokens}
 use Rattle.charge.specs.Classes.{classAnswer}
 use Rattle.programs.specs.Programs.{programsAnswer}
 use Rattle.freeze.specs.Freeze.{allFrozen}
@@ -60,14 +61,14 @@ unfoldable pub recordsAfter : Call → List Record
 recordsAfter call = recordsOf (cutTable (call .after))
 
 -- the program indexes of a list that was read, none where there is no list
-abbrev pub programsOf : Option (Read (List Instruction)) → List ℕ
-programsOf none = []
-programsOf (some d) = map (λ (i : Instruction). i .program) (d .value)
+abbrev pub programIndexes : Option (Read (List Instruction)) → List ℕ
+programIndexes none = []
+programIndexes (some d) = map (λ (i : Instruction). i .program) (d .value)
 
 -- the answer to reading the instructions
-abbrev pub readAnswer : Option (Read (List Instruction)) → Answer
-readAnswer none = answer invalidInstructionData
-readAnswer (some d) = answer accepted
+abbrev pub instructionsAnswer : Option (Read (List Instruction)) → Answer
+instructionsAnswer none = answer invalidInstructionData
+instructionsAnswer (some d) = answer accepted
 
 -- the actions of a region, none where it is not in stored form
 abbrev pub actionsOf : Refusable (List Action) → List Action
@@ -91,7 +92,7 @@ soundness region call =
     refuseIf (not (eqb (length (call .vault)) keyLength)) badTable
     ∷ answerOf (cutTable (call .before))
     ∷ answerOf (cutTable (call .after))
-    ∷ readAnswer (decode (call .instructions))
+    ∷ instructionsAnswer (decode (call .instructions))
     ∷ answerOf (storedActions region)
     ∷ []
 
@@ -99,10 +100,10 @@ soundness region call =
 unfoldable pub rules : Call → List Action → List Answer
 unfolding charged recordsBefore recordsAfter
 rules call l =
-    programsAnswer (call .slot) l (recordsBefore call) (programsOf (decode (call .instructions)))
+    programsAnswer (call .slot) l (recordsBefore call) (programIndexes (decode (call .instructions)))
     ∷ refuseIf (not (allFrozen (call .vault) (λ (mint : List ℕ). isListed mint l) (recordsAfter call) (recordsBefore call))) sessionTokenAuthorityChanged
-    ∷ classAnswer false (call .slot) (charged call l)
-    ∷ classAnswer true (call .slot) (charged call l)
+    ∷ classAnswer Sol (call .slot) (charged call l)
+    ∷ classAnswer Tokens (call .slot) (charged call l)
     ∷ []
 
 -- the steps of a judged call; step 4: an empty region has none of the rules

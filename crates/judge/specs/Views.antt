@@ -1,16 +1,17 @@
 -- The values that the code hands on between steps.
 -- Assumes nothing.
 use Prim.Native.Nat.{ℕ}
-use mathlib.Core.Bool.{Bool, true, false, not}
+use mathlib.Core.Bool.{Bool, not}
 use mathlib.Core.List.{List, [], _∷_}
 use Rattle.answer.specs.declared.Answer.{Answer}
 use Rattle.answer.specs.Numbers.{answer, accepted, firstRefusal, refuseIf, sessionTokenAuthorityChanged}
 use Rattle.keys.specs.declared.Keys.{Keys}
-use Rattle.keys.specs.Keys.{isAmong, keysIn}
+use Rattle.keys.specs.Views.{isAmong, keysIn}
 use Rattle.action.specs.Action.{Action}
-use Rattle.mints.specs.Mints.{listedMints}
+use Rattle.mints.specs.Views.{listedMints}
 use Rattle.account.specs.Record.{Record}
 use Rattle.limit.specs.Limit.{Charge}
+use Rattle.charge.specs.declared.Class.the-variants.{Sol, Tokens}
 use Rattle.charge.specs.Classes.{classAnswer}
 use Rattle.programs.specs.Programs.{programsAnswer}
 use Rattle.freeze.specs.Freeze.{allFrozen}
@@ -30,7 +31,7 @@ checksFrom slot vault before after programs mints l =
 
 -- steps 7 and 8: the SOL rules and the token rules
 unfoldable pub limitsFrom : ℕ → List Charge → Answer
-limitsFrom slot charges = firstRefusal (classAnswer false slot charges ∷ classAnswer true slot charges ∷ [])
+limitsFrom slot charges = firstRefusal (classAnswer Sol slot charges ∷ classAnswer Tokens slot charges ∷ [])
 
 -- steps 4 to 8
 unfoldable pub rulesFrom : ℕ → List ℕ → List Record → List Record → List ℕ → List Charge → List Action → Answer

@@ -4,6 +4,7 @@ use answer::ACCEPTED;
 use answer::Answer;
 use answer::BAD_TABLE;
 use answer::SESSION_TOKEN_AUTHORITY_CHANGED;
+use charge::Class;
 use charge::class_answer;
 use charge::settle;
 use compact::parse_programs;
@@ -25,7 +26,7 @@ ghost use mathlib.Core.Bool.{true, cond};
 ghost use mathlib.Core.List.{map};
 ghost use lib.ListN.{length};
 ghost use Rattle.answer.specs.Numbers.{accepts};
-ghost use Rattle.row.specs.Row.{actionsIn};
+ghost use Rattle.row.specs.Views.{actionsIn};
 ghost use Rattle.account.specs.Views.{recordsIn};
 ghost use Rattle.table.specs.Table.{cutTable, recordsOf};
 ghost use Rattle.balance.specs.Views.{sumsOf};
@@ -70,11 +71,11 @@ fn checks_answer(
 fn limits_answer(region: &[u8], actions: &[u64], amounts: &[u64], slot: u64) -> Answer
     ensures { λ r. ⌜ r ≡ limitsFrom slot (chargesAt (now (region .entry)) (now (actions .entry)) (now (amounts .entry))) ⌝ }
 {
-    let sol = class_answer(region, actions, amounts, false, slot);
+    let sol = class_answer(region, actions, amounts, Class::Sol, slot);
     if !sol.accepts() {
         return sol;
     }
-    class_answer(region, actions, amounts, true, slot)
+    class_answer(region, actions, amounts, Class::Tokens, slot)
 }
 
 // Steps 4 to 9, on what was cut; an empty region has no rules.

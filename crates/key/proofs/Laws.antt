@@ -9,7 +9,8 @@ use borrow.Author.Tests.{eq-eqb, ne-eqb, eqb-true}
 use lib.Dec.{eqb}
 use lib.ListN.{length, getD, drop, drop-of-length-le}
 use lib.Seq.{drop-cons}
-use Rattle.key.specs.Key.{sameBytes, sameKey, zeroKey, keyFrom}
+use Rattle.key.specs.Key.{sameBytes, sameKey}
+use Rattle.key.specs.Views.{zeroKey, keyFrom}
 
 pub same-bytes-step : (a b : List ℕ) (i : ℕ) → i < length a → i < length b
     → sameBytes (drop i a) (drop i b) ≡ (eqb (getD a i 0) (getD b i 0) && sameBytes (drop (suc i) a) (drop (suc i) b))

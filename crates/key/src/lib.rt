@@ -1,6 +1,7 @@
 // Keys of 32 bytes. Every comparison of keys goes through `same_key`.
 ghost use mathlib.Core.Path.{_≡_};
-ghost use Rattle.key.specs.Key.{sameBytes, sameKey, keyFrom};
+ghost use Rattle.key.specs.Key.{sameBytes, sameKey};
+ghost use Rattle.key.specs.Views.{keyFrom};
 
 pub const KEY_LENGTH: usize = 32;
 

@@ -6,9 +6,9 @@ use mathlib.Core.Bool.{true, false, and-false}
 use mathlib.Core.List.{List}
 use borrow.Author.Tests.{eq-eqb, ne-eqb, lt-ltb, le-ltb}
 use lib.ListN.{length, set}
-use Rattle.key.specs.Key.{keyFrom}
+use Rattle.key.specs.Views.{keyFrom}
 use Rattle.key.proofs.Laws.{key-of-its-length}
-use Rattle.keys.specs.Keys.{isAmong, keysIn, withKey}
+use Rattle.keys.specs.Views.{isAmong, keysIn, withKey}
 use Rattle.keys.specs.declared.Keys.{Keys}
 
 module _ (l : Keys) (key : List ℕ) where

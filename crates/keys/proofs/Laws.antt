@@ -10,10 +10,11 @@ use lib.Dec.{eqb, ltb}
 use lib.ListN.{length, getD, take, drop, set, length-set, drop-of-length-le, length-take, length-map, List·getD-map}
 use lib.Seq.{drop-cons, getD-take, take-suc-set}
 use Rattle.key.specs.declared.Key.{Key}
-use Rattle.key.specs.Key.{sameKey, keyFrom}
+use Rattle.key.specs.Key.{sameKey}
+use Rattle.key.specs.Views.{keyFrom}
 use Rattle.key.proofs.Laws.{same-key-eq, key-of-its-length}
 use Rattle.keys.specs.declared.Keys.{Keys}
-use Rattle.keys.specs.Keys.{isAmong, keysIn, withKey, withOne}
+use Rattle.keys.specs.Views.{isAmong, keysIn, withKey}
 use Rattle.keys.proofs.Filling.{with-repeat, with-new}
 
 -- the keys of a list, one after the other
@@ -63,6 +64,10 @@ among-append : (key : List ℕ) (ks : List (List ℕ)) (more : List ℕ) → isA
 unfolding isAmong
 among-append key [] more = or-false (sameKey more key)
 among-append key (k ∷ ks) more = rw (among-append key ks more) (sym (or-assoc (sameKey k key) _ _))
+
+-- some keys and one more, unless it is among them
+unfoldable pub withOne : List (List ℕ) → List ℕ → List (List ℕ)
+withOne ks key = cond (isAmong key ks) ks (ks ++ (key ∷ []))
 
 -- a key is among some and one more where it is among them or is that one
 pub among-with-one : (key : List ℕ) (ks : List (List ℕ)) (more : List ℕ) → isAmong key (withOne ks more) ≡ (isAmong key ks || sameKey more key)

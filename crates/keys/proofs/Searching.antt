@@ -11,7 +11,7 @@ use lib.Dec.{ltb}
 use lib.ListN.{length, getD, drop}
 use Rattle.key.specs.Key.{sameKey}
 use Rattle.key.specs.declared.Key.{Key}
-use Rattle.keys.specs.Keys.{isAmong, keysIn}
+use Rattle.keys.specs.Views.{isAmong, keysIn}
 use Rattle.keys.specs.declared.Keys.{Keys}
 use Rattle.keys.proofs.Laws.{among-found, among-passed, among-end}
 

@@ -7,7 +7,7 @@ ghost use mathlib.Core.List.{[]};
 ghost use Prim.Native.Nat.{_+_, min};
 ghost use lib.Dec.{ltb};
 ghost use Rattle.key.specs.Key.{sameKey};
-ghost use Rattle.keys.specs.Keys.{mostKeys, isAmong, keysIn, keysOf, withKey};
+ghost use Rattle.keys.specs.Views.{mostKeys, isAmong, keysIn, keysOf, withKey};
 
 pub const MAX_KEYS: usize = 16;
 

@@ -12,10 +12,10 @@ use lib.Dec.{ltb}
 use Rattle.answer.specs.Numbers.{accepts, refuseIf, invalidInstructionData}
 use Rattle.compact.specs.declared.Range.{Range}
 use Rattle.compact.specs.declared.Entry.{Entry}
-use Rattle.compact.specs.Views.{within, part}
+use Rattle.compact.specs.Entries.{within, rangeBytes}
 use Rattle.account.specs.declared.RecordView.{RecordView}
 use Rattle.account.specs.Record.{Record}
-use Rattle.account.specs.Views.{recordAt, viewsOf, recordsIn}
+use Rattle.account.specs.Views.{recordAt, recordViews, recordsIn}
 use Rattle.account.proofs.Views.{records-step}
 use Rattle.table.specs.declared.Places.{Places}
 use Rattle.table.specs.Table.{cutTable}
@@ -41,7 +41,7 @@ key-of-rest (a ∷ l) zero r rest e = ap (λ (x : Record). x .key) (let same : a
 key-of-rest (a ∷ l) (suc i) r rest e = key-of-rest l i r rest e
 
 pub key-there : (s row : List ℕ) (i : ℕ) (d : RecordView) → i < length row / 2
-    → keyAmong (recordsIn s row) i ≡ recordAt s (getD (viewsOf row) i d) .key
+    → keyAmong (recordsIn s row) i ≡ recordAt s (getD (recordViews row) i d) .key
 key-there s row i d h = key-of-rest (recordsIn s row) i _ _ (records-step s row i d h)
 
 pub key-of-table : (s : List ℕ) (cut : Places) (i : ℕ) → cut ≡ placesOf (cutTable s)
@@ -88,7 +88,7 @@ module _ (count : ℕ) (source : List ℕ) (e : Entry) where
   program-past-the-count h = rw (le-ltb _ _ h, and-false)
 
   pub accounts-decide : within source (e .accounts) ≡ true → within source (e .payload) ≡ true → e .program < count
-      → resolvable count source e ≡ allBelow count (part source (e .accounts))
+      → resolvable count source e ≡ allBelow count (rangeBytes source (e .accounts))
   unfolding resolvable
   accounts-decide ha hp h = rw (ha, hp, lt-ltb _ _ h)
 

@@ -9,15 +9,15 @@ use native.Mathlib.Nat.{not-suc-le-zero, le-of-suc-le-suc}
 use native.Mathlib.Omega.{arith}
 use borrow.Author.Tests.{ltb-true, ltb-false}
 use lib.Dec.{ltb}
-use lib.ListN.{length, take, drop, getD}
+use lib.ListN.{length, getD}
 use lib.Seq.{length-take-le}
 use Rattle.answer.specs.declared.Answer.{Answer}
 use Rattle.answer.specs.Numbers.{answer, accepted, refuseIf, invalidInstructionData}
 use Rattle.answer.specs.Refusable.{Refusable, given, refused}
 use Rattle.number.specs.Number.{number}
+use Rattle.part.proofs.Laws.{length-part-there}
 use Rattle.compact.specs.declared.Entry.{Entry}
-use Rattle.compact.specs.Views.{within, part}
-use Rattle.compact.proofs.Parts.{length-part}
+use Rattle.compact.specs.Entries.{within, rangeBytes}
 use Rattle.account.specs.Record.{Record}
 use Rattle.table.specs.Table.{cutRecords, cutTable, recordsOf}
 use Rattle.table.proofs.Given.{none-given, one-given, table-given, table-refusal}
@@ -77,11 +77,11 @@ pub record NamesWhatIsThere (s : List ℕ) (e : Entry) (source : List ℕ) : Typ
   pub accounts : e .accounts .start + e .accounts .len ≤ length source
   pub payload : e .payload .start + e .payload .len ≤ length source
   pub program : length (keyAt s (e .program)) ≡ 32
-  pub indexes : (i : ℕ) → i < e .accounts .len → length (keyAt s (getD (part source (e .accounts)) i 0)) ≡ 32
+  pub indexes : (i : ℕ) → i < e .accounts .len → length (keyAt s (getD (rangeBytes source (e .accounts)) i 0)) ≡ 32
 
 pub an-entry-that-resolves-names-what-is-there : (s : List ℕ) (e : Entry) (source : List ℕ) → resolving s e source ≡ answer accepted
     → NamesWhatIsThere s e source
-unfolding resolvable part
+unfolding resolvable
 an-entry-that-resolves-names-what-is-there s e source h =
     let count = length (recordsOf (cutTable s)) in
     let (three, below) = and-eq-true-iff (within source (e .accounts) && within source (e .payload) && ltb (e .program) count) _ .0 (resolved-entry s e source h) in
@@ -89,7 +89,7 @@ an-entry-that-resolves-names-what-is-there s e source h =
     let (accounts, payload) = and-eq-true-iff (within source (e .accounts)) _ .0 two in
     let inside = within-ends source (e .accounts) accounts in
     let found : (i : ℕ) → i < count → length (keyAt s i) ≡ 32 = λ i. a-lookup-gives-32-bytes-exactly-below-the-count s i .1 in
-    let long : length (take (e .accounts .len) (drop (e .accounts .start) source)) ≡ e .accounts .len = length-part (e .accounts .len) (e .accounts .start) source inside in
+    let long = length-part-there source (e .accounts .start) (e .accounts .len) inside in
     record {
       accounts = inside;
       payload = within-ends source (e .payload) payload;

@@ -9,7 +9,7 @@ use Rattle.answer.specs.declared.Answer.{Answer}
 use Rattle.answer.specs.Numbers.{refuseIf, invalidInstructionData}
 use Rattle.answer.specs.Refusable.{given, refused}
 use Rattle.compact.specs.declared.Entry.{Entry}
-use Rattle.compact.specs.Views.{within, part}
+use Rattle.compact.specs.Entries.{within, rangeBytes}
 use Rattle.account.specs.Record.{Record}
 use Rattle.table.specs.Table.{cutTable, recordsOf}
 
@@ -21,7 +21,7 @@ allBelow count (i ∷ is) = ltb i count && allBelow count is
 -- whether an entry names what is there: both ranges within its source, its program index and all account indexes below a count
 unfoldable pub resolvable : ℕ → List ℕ → Entry → Bool
 resolvable count source e =
-    within source (e .accounts) && within source (e .payload) && ltb (e .program) count && allBelow count (part source (e .accounts))
+    within source (e .accounts) && within source (e .payload) && ltb (e .program) count && allBelow count (rangeBytes source (e .accounts))
 
 -- what resolving an entry of a source answers: a malformed table first, then an entry that names what is not there
 unfoldable pub resolving : List ℕ → Entry → List ℕ → Answer

@@ -6,6 +6,7 @@ use answer::ACCEPTED;
 use answer::Answer;
 use answer::INVALID_INSTRUCTION_DATA;
 use compact::Entry;
+use part::part_at;
 use table::cut_places;
 ghost use mathlib.Core.Path.{_≡_};
 ghost use Rattle.account.specs.Views.{recordsIn};
@@ -57,9 +58,7 @@ fn is_resolvable(count: usize, source: &[u8], entry: Entry) -> bool
     if count <= entry.program as usize {
         return false;
     }
-    let start = accounts.start;
-    let end = start + accounts.len;
-    all_below(&source[start..end], count)
+    all_below(part_at(source, accounts.start, accounts.len), count)
 }
 
 // Whether an entry of a source can be resolved against a table. The table is looked at first.

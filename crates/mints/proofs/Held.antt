@@ -9,15 +9,17 @@ use borrow.Author.Tests.{eqb-true}
 use lib.Dec.{eqb, lit≤}
 use lib.ListN.{length}
 use lib.Seq.{length-take-le}
-use Rattle.key.specs.Key.{sameKey, zeroKey}
+use Rattle.key.specs.Key.{sameKey}
+use Rattle.key.specs.Views.{zeroKey}
 use Rattle.keys.specs.declared.Keys.{Keys}
-use Rattle.keys.specs.Keys.{isAmong, keysIn, keysOf, withKey}
+use Rattle.keys.specs.Views.{isAmong, keysIn, keysOf, withKey}
 use Rattle.keys.proofs.Laws.{among-with-one, with-key-in, with-key-next}
 use Rattle.action.specs.Action.{Action, dataLength, sizeAmong}
 use Rattle.action.specs.Fields.{isToken, keyOf}
 use Rattle.creation.specs.declared.Rule.the-variants.{Length}
 use Rattle.creation.specs.Creation.{keeps, allKeep}
-use Rattle.mints.specs.Mints.{isListed, withMint, withMints, listedMints}
+use Rattle.mints.specs.Mints.{isListed}
+use Rattle.mints.specs.Views.{withMint, withMints, listedMints}
 use Rattle.mints.proofs.Listing.{mint-kept, mint-added, mints-none}
 
 -- a token action of the length that is listed has a mint of 32 bytes

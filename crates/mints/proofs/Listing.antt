@@ -8,17 +8,17 @@ use native.Mathlib.Omega.{arith}
 use borrow.Author.Tests.{not-true, eqb-true, ltb-true}
 use lib.Dec.{eqb, ltb}
 use lib.ListN.{length, getD, drop, set, length-set, drop-of-length-le}
-use Rattle.key.specs.Key.{keyFrom}
+use Rattle.key.specs.Views.{keyFrom}
 use Rattle.keys.specs.declared.Keys.{Keys}
-use Rattle.keys.specs.Keys.{isAmong, keysIn, keysOf, withKey}
+use Rattle.keys.specs.Views.{isAmong, keysIn, keysOf, withKey}
 use Rattle.keys.proofs.Filling.{with-new}
 use Rattle.action.specs.declared.ActionView.{ActionView}
 use Rattle.action.specs.Action.{Action}
 use Rattle.action.specs.Fields.{isToken, keyOf}
-use Rattle.action.specs.Views.{zeroView, actionAt}
-use Rattle.row.specs.Row.{viewsOf, actionsIn}
+use Rattle.action.specs.Views.{zeroActionView, actionAt}
+use Rattle.row.specs.Views.{actionViews, actionsIn}
 use Rattle.row.proofs.Views.{actions-step, length-actions}
-use Rattle.mints.specs.Mints.{withMint, withMints, listedMints}
+use Rattle.mints.specs.Views.{withMint, withMints, listedMints}
 
 pub mint-kept : (mints : Keys) (a : Action) → isToken (a .kind) ≡ false → withMint mints a ≡ mints
 unfolding withMint
@@ -79,12 +79,12 @@ filled-next mints a far =
 
 -- ---- collecting, a view at a time
 
-pub mints-step : (s row : List ℕ) (i : ℕ) (v : ActionView) (mints : Keys) → v ≡ getD (viewsOf row) i zeroView → i < length (viewsOf row)
+pub mints-step : (s row : List ℕ) (i : ℕ) (v : ActionView) (mints : Keys) → v ≡ getD (actionViews row) i zeroActionView → i < length (actionViews row)
     → withMints mints (drop i (actionsIn s row)) ≡ withMints (withMint mints (actionAt s v)) (drop (suc i) (actionsIn s row))
 unfolding withMints
-mints-step s row i v mints here h = rw (here, actions-step s row i zeroView h)
+mints-step s row i v mints here h = rw (here, actions-step s row i zeroActionView h)
 
-pub mints-end : (s row : List ℕ) (i : ℕ) (mints : Keys) → length (viewsOf row) ≤ i → withMints mints (drop i (actionsIn s row)) ≡ mints
+pub mints-end : (s row : List ℕ) (i : ℕ) (mints : Keys) → length (actionViews row) ≤ i → withMints mints (drop i (actionsIn s row)) ≡ mints
 unfolding withMints
 mints-end s row i mints past =
     let short : length (actionsIn s row) ≤ i = rw (length-actions s row) past in

@@ -1,1 +1,2 @@
 pub mod Mints
+pub mod Views

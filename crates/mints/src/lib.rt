@@ -13,10 +13,10 @@ ghost use mathlib.Core.Bool.{not, _&&_};
 ghost use lib.Dec.{eqb, ltb};
 ghost use lib.ListN.{length};
 ghost use Rattle.key.specs.Key.{sameKey, keyLength};
-ghost use Rattle.keys.specs.Keys.{mostKeys};
+ghost use Rattle.keys.specs.Views.{mostKeys};
 ghost use Rattle.action.specs.Fields.{isToken};
-ghost use Rattle.row.specs.Row.{actionsIn};
-ghost use Rattle.mints.specs.Mints.{listedMints};
+ghost use Rattle.row.specs.Views.{actionsIn};
+ghost use Rattle.mints.specs.Views.{listedMints};
 
 // Whether an action's mint is put into a list of `count` keys, where a search for it ended at `k`.
 fn is_new(view: ActionView, mint: &[u8], k: Key, count: usize) -> bool

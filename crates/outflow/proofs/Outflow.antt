@@ -16,13 +16,13 @@ use Rattle.key.specs.declared.Key.{Key}
 use Rattle.key.specs.Key.{sameKey}
 use Rattle.key.proofs.Laws.{same-key-eq}
 use Rattle.keys.specs.declared.Keys.{Keys}
-use Rattle.keys.specs.Keys.{keysIn}
+use Rattle.keys.specs.Views.{keysIn}
 use Rattle.keys.proofs.Laws.{length-keys, key-at}
 use Rattle.keys.proofs.Searching.{Searched}
 use Rattle.action.specs.declared.ActionView.{ActionView}
 use Rattle.action.specs.Fields.{isToken, keyOf}
-use Rattle.action.specs.Views.{zeroView, actionAt}
-use Rattle.row.specs.Row.{viewsOf, actionsIn}
+use Rattle.action.specs.Views.{zeroActionView, actionAt}
+use Rattle.row.specs.Views.{actionViews, actionsIn}
 use Rattle.account.specs.Record.{Record}
 use Rattle.balance.specs.declared.Sums.{Sums}
 use Rattle.balance.specs.Balance.{balance}
@@ -114,9 +114,9 @@ decrease-at vault before after ks i had has h room p q =
     mint-decreased vault before after _ _ _ (rw p (amount-at _ ks i [] h room)) (rw q (amount-at _ ks i [] h room))
 
 -- the action of a view
-pub action-at : (s row : List ℕ) (i : ℕ) (v : ActionView) → v ≡ getD (viewsOf row) i zeroView → actionAt s v ≡ getD (actionsIn s row) i (actionAt s zeroView)
+pub action-at : (s row : List ℕ) (i : ℕ) (v : ActionView) → v ≡ getD (actionViews row) i zeroActionView → actionAt s v ≡ getD (actionsIn s row) i (actionAt s zeroActionView)
 unfolding actionsIn
-action-at s row i v here = ap (actionAt s) here ∙ sym (List·getD-map (actionAt s) (viewsOf row) i zeroView)
+action-at s row i v here = ap (actionAt s) here ∙ sym (List·getD-map (actionAt s) (actionViews row) i zeroActionView)
 
 -- the amount of a listed mint that a search found is that of the mint
 pub found-decrease : (f : List ℕ → ℕ) {m : Keys} {key : List ℕ} {n at : ℕ} {k : Key} → Searched m key n at k → length (m .list) ≡ 16 → n ≡ min (m .count) 16

@@ -16,10 +16,10 @@ ghost use mathlib.Core.Bool.{true};
 ghost use mathlib.Core.List.{map};
 ghost use Prim.Native.Nat.{min};
 ghost use lib.ListN.{length};
-ghost use Rattle.keys.specs.Keys.{keysIn};
+ghost use Rattle.keys.specs.Views.{keysIn};
 ghost use Rattle.action.specs.Fields.{keyOf};
 ghost use Rattle.action.specs.Views.{actionAt};
-ghost use Rattle.row.specs.Row.{viewsOf, actionsIn};
+ghost use Rattle.row.specs.Views.{actionViews, actionsIn};
 ghost use Rattle.region.specs.Region.{mostActions};
 ghost use Rattle.account.specs.Views.{recordsIn};
 ghost use Rattle.balance.specs.Views.{sumsOf};
@@ -108,7 +108,7 @@ fn amount_known(
 
 // How many actions of a row have an amount.
 fn counted(actions: &[u64]) -> usize
-    ensures { λ r. ⌜ r ≡ min (length (viewsOf (now (actions .entry)))) mostActions ⌝ }
+    ensures { λ r. ⌜ r ≡ min (length (actionViews (now (actions .entry)))) mostActions ⌝ }
 {
     let n = how_many(actions);
     if n < MAX_ACTIONS { n } else { MAX_ACTIONS }

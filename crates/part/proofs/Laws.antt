@@ -6,7 +6,7 @@ use Prim.Native.Nat.{ℕ, _+_, _<_, _≤_}
 use native.Mathlib.Omega.{arith}
 use borrow.Author.Tests.{le-leb, lt-leb}
 use lib.ListN.{length, take, drop, length-append, length-drop}
-use lib.Seq.{length-take-le, take-append-le, drop-append-le}
+use lib.Seq.{length-take-le, take-append-le, drop-append-le, take-at, drop-at}
 use Rattle.part.specs.Part.{partAt}
 
 pub part-there : (s : List ℕ) (at len : ℕ) → at + len ≤ length s → partAt s at len ≡ take len (drop at s)
@@ -30,3 +30,9 @@ part-before-more s more at len h =
     let inside : at ≤ length s = omega arith in
     let fits : len ≤ length (drop at s) = simp length-drop (omega arith) in
     part-there (s ++ more) at len longer ∙ rw (drop-append-le, take-append-le) (sym (part-there s at len h))
+
+-- what stands between other bytes is the part at its place
+pub part-between : (before xs after : List ℕ) (at len : ℕ) → length before ≡ at → length xs ≡ len → partAt (before ++ (xs ++ after)) at len ≡ xs
+part-between before xs after at len place long =
+    let there : at + len ≤ length (before ++ (xs ++ after)) = simp length-append (omega arith) in
+    part-there _ at len there ∙ rw (drop-at before (xs ++ after) at place, take-at xs after len long)

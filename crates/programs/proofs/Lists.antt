@@ -15,8 +15,8 @@ use Rattle.key.specs.Key.{sameKey}
 use Rattle.action.specs.declared.ActionView.{ActionView}
 use Rattle.action.specs.Action.{Action, expired}
 use Rattle.action.specs.Fields.{keyOf}
-use Rattle.action.specs.Views.{zeroView, actionAt}
-use Rattle.row.specs.Row.{viewsOf, actionsIn, kindsIn}
+use Rattle.action.specs.Views.{zeroActionView, actionAt}
+use Rattle.row.specs.Views.{actionViews, actionsIn, kindsIn}
 use Rattle.row.proofs.Views.{actions-step, length-actions}
 use Rattle.creation.specs.Creation.{howOften, kindsOf}
 use Rattle.creation.proofs.Scanning.{kinds-of-actions}
@@ -27,9 +27,9 @@ use Rattle.programs.specs.Programs.{inLiveList, listsAnswer, programAnsw
 -- ---- one list
 
 module _ (kind slot : ℕ) (key s row : List ℕ) (i : ℕ) where
-  module _ (v : ActionView) (here : v ≡ getD (viewsOf row) i zeroView) (h : i < length (viewsOf row)) where
+  module _ (v : ActionView) (here : v ≡ getD (actionViews row) i zeroActionView) (h : i < length (actionViews row)) where
     step : drop i (actionsIn s row) ≡ actionAt s v ∷ drop (suc i) (actionsIn s row)
-    step = rw here (actions-step s row i zeroView h)
+    step = rw here (actions-step s row i zeroActionView h)
 
     pub list-found : (eqb (v .kind) kind && not (expired (v .expires) slot) && sameKey (keyOf (actionAt s v)) key) ≡ true
         → inLiveList kind slot key (drop i (actionsIn s row)) ≡ true
@@ -41,7 +41,7 @@ module _ (kind slot : ℕ) (key s row : List ℕ) (i : ℕ) where
     unfolding inLiveList actionAt
     list-passed e = rw (step, e)
 
-  pub list-end : length (viewsOf row) ≤ i → inLiveList kind slot key (drop i (actionsIn s row)) ≡ false
+  pub list-end : length (actionViews row) ≤ i → inLiveList kind slot key (drop i (actionsIn s row)) ≡ false
   unfolding inLiveList
   list-end past =
       let short : length (actionsIn s row) ≤ i = rw (length-actions s row) past in

@@ -21,7 +21,7 @@ ghost use Rattle.key.specs.Key.{sameKey};
 ghost use Rattle.action.specs.Action.{expired, programWhitelist};
 ghost use Rattle.action.specs.Fields.{keyOf};
 ghost use Rattle.action.specs.Views.{actionAt};
-ghost use Rattle.row.specs.Row.{actionsIn, kindsIn};
+ghost use Rattle.row.specs.Views.{actionsIn, kindsIn};
 ghost use Rattle.creation.specs.Creation.{howOften};
 ghost use Rattle.account.specs.Views.{recordsIn};
 ghost use Rattle.programs.specs.Programs.{inLiveList, listsAnswer, programAnswer, programsAnswer};

@@ -9,15 +9,15 @@ use lib.Seq.{drop-drop, take-at}
 use Rattle.answer.specs.declared.Answer.{Answer}
 use Rattle.answer.specs.Numbers.{answer, actionBufferInvalid}
 use Rattle.answer.specs.Refusable.{Refusable, given, refused, change}
+use Rattle.part.proofs.Laws.{part-there}
 use Rattle.action.specs.Action.{Action}
-use Rattle.action.specs.Views.{zeroView, dataAt, actionAt}
-use Rattle.action.proofs.Views.{data-there}
+use Rattle.action.specs.Views.{zeroActionView, dataAt, actionAt}
 use Rattle.action.proofs.Lengths.{known-code}
-use Rattle.row.specs.Row.{viewsOf, rowOf, actionsIn}
+use Rattle.row.specs.Views.{actionViews, actionRow, actionsIn}
 use Rattle.row.proofs.InRow.{row-front}
-use Rattle.region.specs.declared.Parsed.{Parsed}
+use Rattle.region.specs.declared.ParsedActions.{ParsedActions}
 use Rattle.region.specs.Region.{First, first, cut, mostActions}
-use Rattle.region.specs.Views.{viewAt, placed, parsedOf}
+use Rattle.region.specs.Views.{actionViewAt, actionViewsFrom, parsedOf}
 use Rattle.region.proofs.Cutting.{IsFirst, first-is, first-refuses, cut-end, cut-full, cut-refused, cut-first}
 use Rattle.region.proofs.Parsing.{length-placed}
 
@@ -74,17 +74,17 @@ pub cut-at-most : {n : ℕ} {s : List ℕ} {l : List Action} → Cuts n s l → 
 cut-at-most none = omega arith
 cut-at-most (more facts cuts) = omega (arith, cut-at-most cuts)
 
-act-there : (s : List ℕ) (place : ℕ) (f : First) → place ≤ length s → IsFirst (drop place s) f → actionAt s (viewAt place (f .act)) ≡ f .act
-unfolding actionAt viewAt
+act-there : (s : List ℕ) (place : ℕ) (f : First) → place ≤ length s → IsFirst (drop place s) f → actionAt s (actionViewAt place (f .act)) ≡ f .act
+unfolding actionAt actionViewAt
 act-there s place f h facts =
     let inside = rw (length-drop place s) at (facts .within) in
-    let there = data-there s (viewAt place (f .act)) (omega arith) in
-    let payload : dataAt s (viewAt place (f .act)) ≡ f .act .payload = there ∙ rw (← (drop-drop 11 place s)) (sym (facts .payload-is)) in
+    let there = part-there s (place + 11) (length (f .act .payload)) (omega arith) in
+    let payload : dataAt s (actionViewAt place (f .act)) ≡ f .act .payload = there ∙ rw (← (drop-drop 11 place s)) (sym (facts .payload-is)) in
     ap (λ (b : List ℕ). record { kind = f .act .kind; expires = f .act .expires; payload = b }) payload
 
 pub views-name : (s : List ℕ) {n : ℕ} {rest : List ℕ} {l : List Action} → Cuts n rest l → (place : ℕ) → place ≤ length s → rest ≡ drop place s
-    → map (actionAt s) (placed place l) ≡ l
-unfolding placed
+    → map (actionAt s) (actionViewsFrom place l) ≡ l
+unfolding actionViewsFrom
 views-name s none place h e = refl
 views-name s (more {f = f} facts cuts) place h e =
     let here = subst (λ (x : List ℕ). IsFirst x f) e facts in
@@ -94,8 +94,8 @@ views-name s (more {f = f} facts cuts) place h e =
     ap₂ (λ (a : Action) (k : List Action). a ∷ k) (act-there s place f h here) (views-name s cuts (place + 11 + length (f .act .payload)) (omega arith) after)
 
 -- an action that was cut has a known code, which a row keeps as it is
-views-held : {n : ℕ} {s : List ℕ} {l : List Action} → Cuts n s l → (place : ℕ) → viewsOf (rowOf (placed place l)) ≡ placed place l
-unfolding placed viewsOf rowOf viewAt
+views-held : {n : ℕ} {s : List ℕ} {l : List Action} → Cuts n s l → (place : ℕ) → actionViews (actionRow (actionViewsFrom place l)) ≡ actionViewsFrom place l
+unfolding actionViewsFrom actionViews actionRow actionViewAt
 views-held none place = refl
 views-held (more {f = f} facts cuts) place =
     let known = known-code (f .act .kind) (facts .known) in
@@ -104,15 +104,15 @@ views-held (more {f = f} facts cuts) place =
     rw (kept, rest)
 
 -- the row of the actions that a region was cut into
-abbrev pub rowIn : Parsed → List ℕ
+abbrev pub rowIn : ParsedActions → List ℕ
 rowIn p = take (4 * p .count) (p .list)
 
 -- what it holds are their views
-pub views-of-parsed : (s : List ℕ) (l : List Action) → cut mostActions s ≡ given l → viewsOf (rowIn (parsedOf (given l))) ≡ placed 0 l
+pub views-of-parsed : (s : List ℕ) (l : List Action) → cut mostActions s ≡ given l → actionViews (rowIn (parsedOf (given l))) ≡ actionViewsFrom 0 l
 unfolding parsedOf
 views-of-parsed s l e =
-    let front : take (length l) (placed 0 l ++ replicate (mostActions - length l) zeroView) ≡ placed 0 l = take-at (placed 0 l) _ (length l) (length-placed 0 l) in
-    rw (row-front (length l) (placed 0 l ++ replicate (mostActions - length l) zeroView), front) (views-held (cut-cuts mostActions s l e) 0)
+    let front : take (length l) (actionViewsFrom 0 l ++ replicate (mostActions - length l) zeroActionView) ≡ actionViewsFrom 0 l = take-at (actionViewsFrom 0 l) _ (length l) (length-placed 0 l) in
+    rw (row-front (length l) (actionViewsFrom 0 l ++ replicate (mostActions - length l) zeroActionView), front) (views-held (cut-cuts mostActions s l e) 0)
 
 -- and they name the actions that were cut
 pub actions-of-parsed : (s : List ℕ) (l : List Action) → cut mostActions s ≡ given l → actionsIn s (rowIn (parsedOf (given l))) ≡ l

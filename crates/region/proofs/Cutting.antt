@@ -18,21 +18,21 @@ use Rattle.number.proofs.Laws.{number-there}
 use Rattle.action.specs.declared.ActionView.{ActionView}
 use Rattle.action.specs.Action.{Action, dataLength}
 use Rattle.region.specs.declared.HeaderRead.the-variants.{View, Refused}
-use Rattle.region.specs.Region.{First, statedLength, first, cut}
-use Rattle.region.specs.Views.{viewAt, headerAt}
+use Rattle.region.specs.Region.{First, headerDataLength, first, cut}
+use Rattle.region.specs.Views.{actionViewAt, headerAt}
 
 -- what is given where the header is whole, the type known and the data all there
 abbrev pub firstOf : List ℕ → First
 firstOf s = record {
-  act = record { kind = getD s 0 0; expires = number (take 8 (drop 3 s)); payload = take (statedLength s) (drop 11 s) };
-  rest = drop (11 + statedLength s) s;
+  act = record { kind = getD s 0 0; expires = number (take 8 (drop 3 s)); payload = take (headerDataLength s) (drop 11 s) };
+  rest = drop (11 + headerDataLength s) s;
 }
 
 -- its test
 abbrev wholeFirst : List ℕ → Bool
-wholeFirst s = leb 11 (length s) && ltb 0 (dataLength (getD s 0 0)) && leb (11 + statedLength s) (length s)
+wholeFirst s = leb 11 (length s) && ltb 0 (dataLength (getD s 0 0)) && leb (11 + headerDataLength s) (length s)
 
-pub first-given : (s : List ℕ) → 11 ≤ length s → 0 < dataLength (getD s 0 0) → 11 + statedLength s ≤ length s → first s ≡ given (firstOf s)
+pub first-given : (s : List ℕ) → 11 ≤ length s → 0 < dataLength (getD s 0 0) → 11 + headerDataLength s ≤ length s → first s ≡ given (firstOf s)
 unfolding first
 first-given s long known there = rw (le-leb _ _ long, lt-ltb _ _ known, le-leb _ _ there)
 
@@ -44,7 +44,7 @@ first-unknown : (s : List ℕ) → dataLength (getD s 0 0) ≤ 0 → first s ≡
 unfolding first
 first-unknown s unknown = rw (le-ltb _ _ unknown, and-false)
 
-first-past : (s : List ℕ) → length s < 11 + statedLength s → first s ≡ refused (answer actionBufferInvalid)
+first-past : (s : List ℕ) → length s < 11 + headerDataLength s → first s ≡ refused (answer actionBufferInvalid)
 unfolding first
 first-past s past = rw (lt-leb _ _ past, and-false)
 
@@ -55,13 +55,13 @@ module _ (s : List ℕ) (at : ℕ) where
   unfolding headerAt
   header-refused e = rw (e, headerAt)
 
-  header-given : {f : First} → first (drop at s) ≡ given f → headerAt s at ≡ View (viewAt at (f .act))
+  header-given : {f : First} → first (drop at s) ≡ given f → headerAt s at ≡ View (actionViewAt at (f .act))
   unfolding headerAt
   header-given e = rw (e, headerAt)
 
   -- the numbers of a header, read at their places
-  stated-at : at + 3 ≤ length s → statedLength (drop at s) ≡ numberAt 2 s (at + 1)
-  unfolding statedLength
+  stated-at : at + 3 ≤ length s → headerDataLength (drop at s) ≡ numberAt 2 s (at + 1)
+  unfolding headerDataLength
   stated-at h = rw (drop-drop 1 at s) (sym (number-there 2 s (at + 1) (omega arith)))
 
   expires-at : at + 11 ≤ length s → number (take 8 (drop 3 (drop at s))) ≡ numberAt 8 s (at + 3)
@@ -81,18 +81,18 @@ module _ (s : List ℕ) (at : ℕ) where
   module _ (long : at + 11 ≤ length s) where
     pub no-header-past : length s < at + 11 + numberAt 2 s (at + 1) → headerAt s at ≡ Refused (answer actionBufferInvalid)
     no-header-past h =
-        let past : length (drop at s) < 11 + statedLength (drop at s) = rw (length-drop at s, stated-at (omega arith)) (omega arith) in
+        let past : length (drop at s) < 11 + headerDataLength (drop at s) = rw (length-drop at s, stated-at (omega arith)) (omega arith) in
         header-refused (first-past (drop at s) past)
 
     pub header-there : (dataLength (getD s at 0) ≡ 0 → ⊥) → at + 11 + numberAt 2 s (at + 1) ≤ length s
         → headerAt s at
         ≡ View (record { kind = getD s at 0; expires = numberAt 8 s (at + 3); at = at + 11; len = numberAt 2 s (at + 1) })
-    unfolding viewAt
+    unfolding actionViewAt
     header-there known h =
         let whole : 11 ≤ length (drop at s) = rw (length-drop at s) (omega arith) in
         let listed : 0 < dataLength (getD (drop at s) 0 0) = rw kind-at (omega arith) in
-        let there : 11 + statedLength (drop at s) ≤ length (drop at s) = rw (length-drop at s, stated-at (omega arith)) (omega arith) in
-        let exact : length (take (statedLength (drop at s)) (drop 11 (drop at s))) ≡ numberAt 2 s (at + 1) = rw (length-take, length-drop 11 (drop at s), length-drop at s, stated-at (omega arith)) (omega arith) in
+        let there : 11 + headerDataLength (drop at s) ≤ length (drop at s) = rw (length-drop at s, stated-at (omega arith)) (omega arith) in
+        let exact : length (take (headerDataLength (drop at s)) (drop 11 (drop at s))) ≡ numberAt 2 s (at + 1) = rw (length-take, length-drop 11 (drop at s), length-drop at s, stated-at (omega arith)) (omega arith) in
         header-given (first-given (drop at s) whole listed there) ∙ rw (kind-at, expires-at long, exact)
 
 -- ---- what a first action is
@@ -103,13 +103,13 @@ pub record IsFirst (s : List ℕ) (f : First) : Type 0 where
   pub within : 11 + length (f .act .payload) ≤ length s
   pub kind-is : f .act .kind ≡ getD s 0 0
   pub expires-is : f .act .expires ≡ number (take 8 (drop 3 s))
-  pub length-is : length (f .act .payload) ≡ statedLength s
+  pub length-is : length (f .act .payload) ≡ headerDataLength s
   pub payload-is : f .act .payload ≡ take (length (f .act .payload)) (drop 11 s)
   pub rest-is : f .rest ≡ drop (11 + length (f .act .payload)) s
 
-first-is-of : (s : List ℕ) → 11 ≤ length s → 0 < dataLength (getD s 0 0) → 11 + statedLength s ≤ length s → IsFirst s (firstOf s)
+first-is-of : (s : List ℕ) → 11 ≤ length s → 0 < dataLength (getD s 0 0) → 11 + headerDataLength s ≤ length s → IsFirst s (firstOf s)
 first-is-of s long listed there =
-    let exact : length (take (statedLength s) (drop 11 s)) ≡ statedLength s = length-take-le (statedLength s) (drop 11 s) (simp length-drop (omega arith)) in
+    let exact : length (take (headerDataLength s) (drop 11 s)) ≡ headerDataLength s = length-take-le (headerDataLength s) (drop 11 s) (simp length-drop (omega arith)) in
     record {
       known = listed;
       within = rw exact there;
@@ -167,10 +167,10 @@ cut-first n (b ∷ s) h e = rw (e, cut)
 -- ---- what a header's answer says of the first action
 
 module _ (s : List ℕ) (at : ℕ) where
-  pub view-first : (v : ActionView) → headerAt s at ≡ View v → (f : First) × (first (drop at s) ≡ given f) × (viewAt at (f .act) ≡ v)
+  pub view-first : (v : ActionView) → headerAt s at ≡ View v → (f : First) × (first (drop at s) ≡ given f) × (actionViewAt at (f .act) ≡ v)
   view-first v h = go (first (drop at s)) refl
     where
-      go : (x : Refusable First) → first (drop at s) ≡ x → (f : First) × (first (drop at s) ≡ given f) × (viewAt at (f .act) ≡ v)
+      go : (x : Refusable First) → first (drop at s) ≡ x → (f : First) × (first (drop at s) ≡ given f) × (actionViewAt at (f .act) ≡ v)
       go (given f) e = let same = header-given s at e in (f, e, cc)
       go (refused r) e = let same = header-refused s at e in absurd (let z : _≡_ {A = ℕ} 0 1 = cc in omega arith)
 

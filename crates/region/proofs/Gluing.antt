@@ -12,13 +12,14 @@ use Rattle.answer.proofs.Each.{each-so}
 use Rattle.answer.specs.Refusable.{given}
 use Rattle.number.specs.Number.{number, bytesOf, Bytes}
 use Rattle.number.proofs.Laws.{bytesOf-number, number-bytesOf, length-bytesOf, bytes-take, bytes-drop, bytes-append, bytesOf-bytes}
+use Rattle.part.specs.Part.{partAt}
+use Rattle.part.proofs.Laws.{part-between}
 use Rattle.action.specs.Action.{Action, dataLength}
 use Rattle.action.specs.Views.{dataAt, actionAt, writtenAt}
 use Rattle.action.proofs.Regular.{Regular}
 use Rattle.action.proofs.Lengths.{known-code, data-at-most}
-use Rattle.action.proofs.Views.{data-there}
-use Rattle.region.specs.Region.{First, first, cut, glueOne, glue, statedLength}
-use Rattle.region.specs.Views.{viewAt}
+use Rattle.region.specs.Region.{First, first, cut, glueOne, glue, headerDataLength}
+use Rattle.region.specs.Views.{actionViewAt}
 use Rattle.region.proofs.Cutting.{IsFirst, first-given, cut-end, cut-first}
 use Rattle.region.proofs.Cuts.{Cuts, none, more}
 
@@ -34,7 +35,7 @@ regroup a b c r = simp append-assoc
 
 -- the first action's bytes, and those after it, are all the bytes
 glue-first : (s : List ℕ) (f : First) → IsFirst s f → Bytes s → glueOne (f .act) ++ f .rest ≡ s
-unfolding glueOne statedLength
+unfolding glueOne headerDataLength
 glue-first s f facts bytes =
     let len = length (f .act .payload) in
     let inside = facts .within in
@@ -83,8 +84,8 @@ module _ (a : Action) (r s : List ℕ) (is : s ≡ a .kind ∷ bytesOf 2 (length
   from-payload : drop 11 s ≡ a .payload ++ r
   from-payload = sym (drop-drop 8 3 s) ∙ ap (drop 8) from-expiry ∙ drop-at (bytesOf 8 (a .expires)) _ 8 (length-bytesOf 8 _)
 
-  length-stated : length (a .payload) < 256 ^ 2 → statedLength s ≡ length (a .payload)
-  unfolding statedLength
+  length-stated : length (a .payload) < 256 ^ 2 → headerDataLength s ≡ length (a .payload)
+  unfolding headerDataLength
   length-stated short =
       ap (λ (x : List ℕ). number (take 2 x)) from-length ∙ ap number (take-at (bytesOf 2 (length (a .payload))) _ 2 (length-bytesOf 2 _)) ∙ number-bytesOf 2 _ short
 
@@ -149,18 +150,18 @@ module _ (l : List Action) (a : Action) (m : List Action) where
   from-data = ap (drop (length (glue l) + 11)) (around l a m) ∙ drop-at (glue l ++ headerOf a) _ _ before-data
 
   -- a view of the action names it
-  pub glued-action : actionAt (glue (l ++ (a ∷ m))) (viewAt (length (glue l)) a) ≡ a
-  unfolding actionAt viewAt
+  pub glued-action : actionAt (glue (l ++ (a ∷ m))) (actionViewAt (length (glue l)) a) ≡ a
+  unfolding actionAt actionViewAt
   glued-action =
-      let there = data-there (glue (l ++ (a ∷ m))) (viewAt (length (glue l)) a) within-glued in
-      let payload : dataAt (glue (l ++ (a ∷ m))) (viewAt (length (glue l)) a) ≡ a .payload =
-      there ∙ ap (take (length (a .payload))) from-data ∙ take-at (a .payload) (glue m) _ refl in
+      let payload : dataAt (glue (l ++ (a ∷ m))) (actionViewAt (length (glue l)) a) ≡ a .payload =
+      ap (λ (s : List ℕ). partAt s (length (glue l) + 11) (length (a .payload))) (around l a m)
+      ∙ part-between (glue l ++ headerOf a) (a .payload) (glue m) _ _ before-data refl in
       ap (λ (p : List ℕ). record { kind = a .kind; expires = a .expires; payload = p }) payload
 
   -- writing in place is replacing that action, where the type, the expiry and the data's length stay
   pub glued-written : (b : Action) → b .kind ≡ a .kind → b .expires ≡ a .expires → length (b .payload) ≡ length (a .payload)
-      → writtenAt (glue (l ++ (a ∷ m))) (viewAt (length (glue l)) a) b ≡ glue (l ++ (b ∷ m))
-  unfolding writtenAt viewAt headerOf
+      → writtenAt (glue (l ++ (a ∷ m))) (actionViewAt (length (glue l)) a) b ≡ glue (l ++ (b ∷ m))
+  unfolding writtenAt actionViewAt headerOf
   glued-written b k x n =
       let s = glue (l ++ (a ∷ m)) in
       let at = length (glue l) + 11 in

@@ -12,12 +12,12 @@ use Rattle.answer.specs.Refusable.{given, refused, change}
 use Rattle.answer.proofs.Refusing.{none-in-front, more-in-front}
 use Rattle.action.specs.declared.ActionView.{ActionView}
 use Rattle.action.specs.Action.{Action}
-use Rattle.action.specs.Views.{zeroView}
-use Rattle.row.specs.Row.{rowOf}
+use Rattle.action.specs.Views.{zeroActionView}
+use Rattle.row.specs.Views.{actionRow}
 use Rattle.row.proofs.InRow.{row-set}
 use Rattle.region.specs.declared.HeaderRead.the-variants.{View, Refused}
 use Rattle.region.specs.Region.{First, first, cut, mostActions}
-use Rattle.region.specs.Views.{viewAt, headerAt, placed, parsedOf}
+use Rattle.region.specs.Views.{actionViewAt, headerAt, actionViewsFrom, parsedOf}
 use Rattle.region.proofs.Cutting.{IsFirst, first-is, cut-end, cut-full, cut-refused, cut-first, view-first, refused-first}
 
 -- the place after some actions that are laid from a place
@@ -25,13 +25,13 @@ pub endOf : ℕ → List Action → ℕ
 endOf place [] = place
 endOf place (a ∷ l) = endOf (place + 11 + length (a .payload)) l
 
-placed-append : (place : ℕ) (l : List Action) (a : Action) → placed place (l ++ (a ∷ [])) ≡ placed place l ++ (viewAt (endOf place l) a ∷ [])
-unfolding placed endOf
+placed-append : (place : ℕ) (l : List Action) (a : Action) → actionViewsFrom place (l ++ (a ∷ [])) ≡ actionViewsFrom place l ++ (actionViewAt (endOf place l) a ∷ [])
+unfolding actionViewsFrom endOf
 placed-append place [] a = refl
-placed-append place (b ∷ l) a = ap (λ (vs : List ActionView). viewAt place b ∷ vs) (placed-append (place + 11 + length (b .payload)) l a)
+placed-append place (b ∷ l) a = ap (λ (vs : List ActionView). actionViewAt place b ∷ vs) (placed-append (place + 11 + length (b .payload)) l a)
 
-pub length-placed : (place : ℕ) (l : List Action) → length (placed place l) ≡ length l
-unfolding placed
+pub length-placed : (place : ℕ) (l : List Action) → length (actionViewsFrom place l) ≡ length l
+unfolding actionViewsFrom
 length-placed place [] = refl
 length-placed place (a ∷ l) = ap suc (length-placed (place + 11 + length (a .payload)) l)
 
@@ -45,12 +45,12 @@ pub record CutSoFar (s : List ℕ) (views : List ActionView) (count at : ℕ) : 
   pub counted : length done ≡ count
   pub most : count ≤ 16
   pub within : at ≤ length s
-  pub laid : views ≡ placed 0 done ++ replicate (16 - count) zeroView
+  pub laid : views ≡ actionViewsFrom 0 done ++ replicate (16 - count) zeroActionView
   pub ends : endOf 0 done ≡ at
   pub same : cut 16 s ≡ change (λ (l : List Action). done ++ l) (cut (16 - count) (drop at s))
 
-pub cut-none : (s : List ℕ) → CutSoFar s (replicate 16 zeroView) 0 0
-unfolding placed endOf
+pub cut-none : (s : List ℕ) → CutSoFar s (replicate 16 zeroActionView) 0 0
+unfolding actionViewsFrom endOf
 cut-none s = record {
   done = [];
   counted = refl;
@@ -63,7 +63,7 @@ cut-none s = record {
 
 module _ {s : List ℕ} {views : List ActionView} {count at : ℕ} (so-far : CutSoFar s views count at) where
   -- all is cut
-  pub cut-all : length s ≤ at → parsedOf (cut mostActions s) ≡ record { answer = answer accepted; list = rowOf views; count = count }
+  pub cut-all : length s ≤ at → parsedOf (cut mostActions s) ≡ record { answer = answer accepted; list = actionRow views; count = count }
   unfolding parsedOf
   cut-all h =
       let done = so-far .done in
@@ -91,13 +91,13 @@ module _ {s : List ℕ} {views : List ActionView} {count at : ℕ} (so-far : Cut
 
       -- the next action is there
       cut-act : (f : First) → first (drop at s) ≡ given f → IsFirst (drop at s) f
-          → CutSoFar s (set views count (viewAt at (f .act))) (count + 1) (at + 11 + length (f .act .payload))
+          → CutSoFar s (set views count (actionViewAt at (f .act))) (count + 1) (at + 11 + length (f .act .payload))
       cut-act f e facts =
           let done = so-far .done in
           let act = f .act in
           let inside = rw (length-drop at s) at (facts .within) in
           let one-less : 16 - (count + 1) ≡ 15 - count = omega arith in
-          let place : length (placed 0 done) ≡ count = length-placed 0 done ∙ so-far .counted in
+          let place : length (actionViewsFrom 0 done) ≡ count = length-placed 0 done ∙ so-far .counted in
           let next : at + (11 + length (act .payload)) ≡ at + 11 + length (act .payload) = omega arith in
           let after : f .rest ≡ drop (at + 11 + length (act .payload)) s =
           facts .rest-is ∙ drop-drop (11 + length (act .payload)) at s ∙ ap (λ (n : ℕ). drop n s) next in
@@ -107,7 +107,7 @@ module _ {s : List ℕ} {views : List ActionView} {count at : ℕ} (so-far : Cut
             most = omega arith;
             within = omega arith;
             laid =
-                rw (so-far .laid, one-more, one-less, set-at (placed 0 done) zeroView (replicate (15 - count) zeroView) (viewAt at act) count place, placed-append 0 done act, so-far .ends, append-snoc);
+                rw (so-far .laid, one-more, one-less, set-at (actionViewsFrom 0 done) zeroActionView (replicate (15 - count) zeroActionView) (actionViewAt at act) count place, placed-append 0 done act, so-far .ends, append-snoc);
             ends = end-append 0 done act ∙ rw (so-far .ends);
             same =
                 so-far .same
@@ -118,11 +118,11 @@ module _ {s : List ℕ} {views : List ActionView} {count at : ℕ} (so-far : Cut
       -- the next header is that of an action
       module _ (v : ActionView) (h : headerAt s at ≡ View v) where
         pub cut-moves : at < v .at + v .len
-        unfolding viewAt
+        unfolding actionViewAt
         cut-moves = let (f, e, p) = view-first s at v h in rw (← p) (omega arith)
 
         pub cut-stays : v .at + v .len ≤ length s
-        unfolding viewAt
+        unfolding actionViewAt
         cut-stays =
             let (f, e, p) = view-first s at v h in
             let facts = first-is (drop at s) f e in
@@ -130,7 +130,7 @@ module _ {s : List ℕ} {views : List ActionView} {count at : ℕ} (so-far : Cut
             rw (← p) (omega arith)
 
         pub cut-one : CutSoFar s (set views count v) (count + 1) (v .at + v .len)
-        unfolding viewAt
+        unfolding actionViewAt
         cut-one =
             let (f, e, p) = view-first s at v h in
             let facts = first-is (drop at s) f e in
@@ -140,11 +140,11 @@ module _ {s : List ℕ} {views : List ActionView} {count at : ℕ} (so-far : Cut
 pub record RowSoFar (s : List ℕ) (list : List ℕ) (count at : ℕ) : Type 0 where
   pub views : List ActionView
   pub so-far : CutSoFar s views count at
-  pub row : list ≡ rowOf views
+  pub row : list ≡ actionRow views
 
 pub row-none : (s : List ℕ) → RowSoFar s (replicate 64 0) 0 0
-unfolding rowOf
-row-none s = record { views = replicate 16 zeroView; so-far = cut-none s; row = refl }
+unfolding actionRow
+row-none s = record { views = replicate 16 zeroActionView; so-far = cut-none s; row = refl }
 
 module _ {s list : List ℕ} {count at : ℕ} (far : RowSoFar s list count at) where
   pub row-all : length s ≤ at → parsedOf (cut mostActions s) ≡ record { answer = answer accepted; list = list; count = count }

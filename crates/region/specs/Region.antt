@@ -24,17 +24,17 @@ pub record First : Type 0 where
   pub rest : List ℕ
 
 -- the data length that a header states
-unfoldable pub statedLength : List ℕ → ℕ
-statedLength s = number (take 2 (drop 1 s))
+unfoldable pub headerDataLength : List ℕ → ℕ
+headerDataLength s = number (take 2 (drop 1 s))
 
 -- refused where the header is short, the type unknown or the data past the end
 unfoldable pub first : List ℕ → Refusable First
-unfolding statedLength
+unfolding headerDataLength
 first s =
-    cond (leb headerLength (length s) && ltb 0 (dataLength (getD s 0 0)) && leb (headerLength + statedLength s) (length s))
+    cond (leb headerLength (length s) && ltb 0 (dataLength (getD s 0 0)) && leb (headerLength + headerDataLength s) (length s))
     (given (record {
-      act = record { kind = getD s 0 0; expires = number (take 8 (drop 3 s)); payload = take (statedLength s) (drop headerLength s) };
-      rest = drop (headerLength + statedLength s) s;
+      act = record { kind = getD s 0 0; expires = number (take 8 (drop 3 s)); payload = take (headerDataLength s) (drop headerLength s) };
+      rest = drop (headerLength + headerDataLength s) s;
     }))
     (refused (answer actionBufferInvalid))
 

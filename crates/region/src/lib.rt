@@ -16,7 +16,7 @@ pub enum HeaderRead {
 
 // A region's actions in order, the four numbers of a view for each; zeros past the count, and on a
 // refusal everywhere. A row of numbers is lent where views would be copied.
-pub struct Parsed {
+pub struct ParsedActions {
     pub answer: Answer,
     pub list: [u64; 64],
     pub count: usize,

@@ -2,7 +2,7 @@
 use crate::ACTION_HEADER_SIZE;
 use crate::HeaderRead;
 use crate::MAX_ACTIONS;
-use crate::Parsed;
+use crate::ParsedActions;
 use action::ActionView;
 use action::expected_data_size;
 use answer::ACCEPTED;
@@ -57,12 +57,12 @@ fn header_answer(read: HeaderRead) -> Answer
     }
 }
 
-impl Parsed {
+impl ParsedActions {
     // A refusal has no views.
     fn refused(answer: Answer) -> Self
         ensures { λ r. ⌜ r ≡ parsedOf (refused answer) ⌝ }
     {
-        Parsed {
+        ParsedActions {
             answer,
             list: [0u64; 64],
             count: 0,
@@ -70,10 +70,10 @@ impl Parsed {
     }
 }
 
-pub fn parse_actions(region: &[u8]) -> Parsed
+pub fn parse_actions(region: &[u8]) -> ParsedActions
     ensures { λ r. ⌜ r ≡ parsedOf (cut mostActions (now (region .entry))) ⌝ }
 {
-    let mut parsed = Parsed {
+    let mut parsed = ParsedActions {
         answer: Answer::of(ACCEPTED),
         list: [0u64; 64],
         count: 0,
@@ -82,11 +82,11 @@ pub fn parse_actions(region: &[u8]) -> Parsed
     let mut at = 0;
     while at < region.len() {
         if MAX_ACTIONS <= count {
-            return Parsed::refused(Answer::of(ACTION_BUFFER_INVALID));
+            return ParsedActions::refused(Answer::of(ACTION_BUFFER_INVALID));
         }
         let read = read_header(region, at);
         let HeaderRead::View(view) = read else {
-            return Parsed::refused(header_answer(read));
+            return ParsedActions::refused(header_answer(read));
         };
         let first = 4 * count;
         parsed.list[first] = view.kind as u64;

@@ -4,8 +4,8 @@ use action::ActionView;
 ghost use mathlib.Core.Path.{_≡_};
 ghost use Prim.Native.Nat.{_*_};
 ghost use lib.ListN.{length, getD, take};
-ghost use Rattle.action.specs.Views.{zeroView};
-ghost use Rattle.row.specs.Row.{viewsOf};
+ghost use Rattle.action.specs.Views.{zeroActionView};
+ghost use Rattle.row.specs.Views.{actionViews};
 
 // The front of a row that has a number of actions.
 pub fn actions_in(list: &[u64], count: usize) -> &[u64]
@@ -19,14 +19,14 @@ pub fn actions_in(list: &[u64], count: usize) -> &[u64]
 
 // How many actions a row has.
 pub fn how_many(actions: &[u64]) -> usize
-    ensures { λ r. ⌜ r ≡ length (viewsOf (now (actions .entry))) ⌝ }
+    ensures { λ r. ⌜ r ≡ length (actionViews (now (actions .entry))) ⌝ }
 {
     actions.len() / 4
 }
 
 // The view at an index of a row, the zero view past the last.
 pub fn action_in(actions: &[u64], i: usize) -> ActionView
-    ensures { λ r. ⌜ r ≡ getD (viewsOf (now (actions .entry))) i zeroView ⌝ }
+    ensures { λ r. ⌜ r ≡ getD (actionViews (now (actions .entry))) i zeroActionView ⌝ }
 {
     if actions.len() / 4 <= i {
         return ActionView {

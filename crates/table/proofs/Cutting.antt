@@ -19,21 +19,21 @@ use Rattle.number.proofs.Laws.{number-there}
 use Rattle.account.specs.declared.RecordView.{RecordView}
 use Rattle.account.specs.Record.{Record}
 use Rattle.table.specs.declared.RecordRead.the-variants.{View, Refused}
-use Rattle.table.specs.Table.{FirstRecord, statedLength, firstRecord, cutRecords, cutTable}
-use Rattle.table.specs.Views.{viewAt, readAt}
+use Rattle.table.specs.Table.{FirstRecord, recordDataLength, firstRecord, cutRecords, cutTable}
+use Rattle.table.specs.Views.{recordViewAt, readAt}
 
 -- whether the header and the data of the first record are all there
 abbrev isWhole : List ℕ → Bool
-isWhole s = leb 68 (length s) && leb (68 + statedLength s) (length s)
+isWhole s = leb 68 (length s) && leb (68 + recordDataLength s) (length s)
 
 -- what is then given
 abbrev pub firstOf : List ℕ → FirstRecord
 firstOf s = record {
-  first = record { key = take 32 s; owner = take 32 (drop 32 s); payload = take (statedLength s) (drop 68 s) };
-  rest = drop (68 + statedLength s) s;
+  first = record { key = take 32 s; owner = take 32 (drop 32 s); payload = take (recordDataLength s) (drop 68 s) };
+  rest = drop (68 + recordDataLength s) s;
 }
 
-pub first-given : (s : List ℕ) → 68 ≤ length s → 68 + statedLength s ≤ length s → firstRecord s ≡ given (firstOf s)
+pub first-given : (s : List ℕ) → 68 ≤ length s → 68 + recordDataLength s ≤ length s → firstRecord s ≡ given (firstOf s)
 unfolding firstRecord
 first-given s long there = rw (le-leb _ _ long, le-leb _ _ there)
 
@@ -41,7 +41,7 @@ first-short : (s : List ℕ) → length s < 68 → firstRecord s ≡ refused (an
 unfolding firstRecord
 first-short s short = rw (lt-leb _ _ short)
 
-first-past : (s : List ℕ) → length s < 68 + statedLength s → firstRecord s ≡ refused (answer badTable)
+first-past : (s : List ℕ) → length s < 68 + recordDataLength s → firstRecord s ≡ refused (answer badTable)
 unfolding firstRecord
 first-past s past = rw (lt-leb _ _ past, and-false)
 
@@ -52,12 +52,12 @@ module _ (s : List ℕ) (at : ℕ) where
   unfolding readAt
   read-refused e = rw (e, readAt)
 
-  read-given : {f : FirstRecord} → firstRecord (drop at s) ≡ given f → readAt s at ≡ View (viewAt at (f .first))
+  read-given : {f : FirstRecord} → firstRecord (drop at s) ≡ given f → readAt s at ≡ View (recordViewAt at (f .first))
   unfolding readAt
   read-given e = rw (e, readAt)
 
-  stated-at : at + 68 ≤ length s → statedLength (drop at s) ≡ numberAt 4 s (at + 64)
-  unfolding statedLength
+  stated-at : at + 68 ≤ length s → recordDataLength (drop at s) ≡ numberAt 4 s (at + 64)
+  unfolding recordDataLength
   stated-at h = rw (drop-drop 64 at s) (sym (number-there 4 s (at + 64) (omega arith)))
 
   pub no-record-short : length s < at + 68 → readAt s at ≡ Refused (answer badTable)
@@ -66,17 +66,17 @@ module _ (s : List ℕ) (at : ℕ) where
   module _ (long : at + 68 ≤ length s) where
     pub no-record-past : length s < at + 68 + numberAt 4 s (at + 64) → readAt s at ≡ Refused (answer badTable)
     no-record-past h =
-        let past : length (drop at s) < 68 + statedLength (drop at s) = rw (length-drop at s, stated-at long) (omega arith) in
+        let past : length (drop at s) < 68 + recordDataLength (drop at s) = rw (length-drop at s, stated-at long) (omega arith) in
         read-refused (first-past (drop at s) past)
 
     pub record-there : at + 68 + numberAt 4 s (at + 64) ≤ length s → readAt s at ≡ View (record { at = at; len = numberAt 4 s (at + 64) })
-    unfolding viewAt
+    unfolding recordViewAt
     record-there h =
         let whole : 68 ≤ length (drop at s) = rw (length-drop at s) (omega arith) in
-        let there : 68 + statedLength (drop at s) ≤ length (drop at s) = rw (length-drop at s, stated-at long) (omega arith) in
-        let fits : statedLength (drop at s) ≤ length (drop 68 (drop at s)) = rw (length-drop 68 (drop at s)) (omega arith) in
+        let there : 68 + recordDataLength (drop at s) ≤ length (drop at s) = rw (length-drop at s, stated-at long) (omega arith) in
+        let fits : recordDataLength (drop at s) ≤ length (drop 68 (drop at s)) = rw (length-drop 68 (drop at s)) (omega arith) in
         read-given (first-given (drop at s) whole there)
-        ∙ rw (length-take-le (statedLength (drop at s)) (drop 68 (drop at s)) fits, stated-at long)
+        ∙ rw (length-take-le (recordDataLength (drop at s)) (drop 68 (drop at s)) fits, stated-at long)
 
 -- ---- what a first record is
 
@@ -85,13 +85,13 @@ pub record IsFirst (s : List ℕ) (f : FirstRecord) : Type 0 where
   pub within : 68 + length (f .first .payload) ≤ length s
   pub key-is : f .first .key ≡ take 32 s
   pub owner-is : f .first .owner ≡ take 32 (drop 32 s)
-  pub length-is : length (f .first .payload) ≡ statedLength s
+  pub length-is : length (f .first .payload) ≡ recordDataLength s
   pub payload-is : f .first .payload ≡ take (length (f .first .payload)) (drop 68 s)
   pub rest-is : f .rest ≡ drop (68 + length (f .first .payload)) s
 
-first-is-of : (s : List ℕ) → 68 ≤ length s → 68 + statedLength s ≤ length s → IsFirst s (firstOf s)
+first-is-of : (s : List ℕ) → 68 ≤ length s → 68 + recordDataLength s ≤ length s → IsFirst s (firstOf s)
 first-is-of s long there =
-    let exact : length (take (statedLength s) (drop 68 s)) ≡ statedLength s = length-take-le (statedLength s) (drop 68 s) (simp length-drop (omega arith)) in
+    let exact : length (take (recordDataLength s) (drop 68 s)) ≡ recordDataLength s = length-take-le (recordDataLength s) (drop 68 s) (simp length-drop (omega arith)) in
     record { within = rw exact there; key-is = refl; owner-is = refl; length-is = exact; payload-is = rw exact; rest-is = rw exact }
 
 pub first-is : (s : List ℕ) (f : FirstRecord) → firstRecord s ≡ given f → IsFirst s f
@@ -132,10 +132,10 @@ cut-first n s e = rw (e, cutRecords)
 -- ---- what a read's answer says of the first record
 
 module _ (s : List ℕ) (at : ℕ) where
-  pub view-first : (v : RecordView) → readAt s at ≡ View v → (f : FirstRecord) × (firstRecord (drop at s) ≡ given f) × (viewAt at (f .first) ≡ v)
+  pub view-first : (v : RecordView) → readAt s at ≡ View v → (f : FirstRecord) × (firstRecord (drop at s) ≡ given f) × (recordViewAt at (f .first) ≡ v)
   view-first v h = go (firstRecord (drop at s)) refl
     where
-      go : (x : Refusable FirstRecord) → firstRecord (drop at s) ≡ x → (f : FirstRecord) × (firstRecord (drop at s) ≡ given f) × (viewAt at (f .first) ≡ v)
+      go : (x : Refusable FirstRecord) → firstRecord (drop at s) ≡ x → (f : FirstRecord) × (firstRecord (drop at s) ≡ given f) × (recordViewAt at (f .first) ≡ v)
       go (given f) e = let same = read-given s at e in (f, e, cc)
       go (refused r) e = let same = read-refused s at e in absurd (let z : _≡_ {A = ℕ} 0 1 = cc in omega arith)
 

@@ -11,7 +11,7 @@ use Rattle.answer.specs.Refusable.{given}
 use Rattle.number.specs.Number.{Bytes, number, bytesOf, numberAt}
 use Rattle.number.proofs.Laws.{length-bytesOf, number-bytesOf, bytesOf-number, number-there, bytes-take, bytes-drop}
 use Rattle.account.specs.Record.{Record}
-use Rattle.table.specs.Table.{FirstRecord, Storable, statedLength, firstRecord, cutRecords, cutTable, glueRecord, glueRecords, glueTable}
+use Rattle.table.specs.Table.{FirstRecord, Storable, recordDataLength, firstRecord, cutRecords, cutTable, glueRecord, glueRecords, glueTable}
 use Rattle.table.proofs.Cutting.{IsFirst, first-given, cut-first, table-counted}
 use Rattle.table.proofs.Given.{none-given, one-given, given-length, table-given}
 
@@ -36,8 +36,8 @@ module _ (key owner len payload after : List ℕ) (hk : length key ≡ 32) (ho :
       sym (drop-drop (length payload) 68 row) ∙ ap (λ (l : List ℕ). drop (length payload) l) from-payload
       ∙ drop-at payload after (length payload) refl
 
-  stated : statedLength row ≡ length payload
-  unfolding statedLength
+  stated : recordDataLength row ≡ length payload
+  unfolding recordDataLength
   stated = rw (from-length, take-at len (payload ++ after) 4 hl) hn
 
   row-length : length row ≡ 68 + length payload + length after
@@ -46,7 +46,7 @@ module _ (key owner len payload after : List ℕ) (hk : length key ≡ 32) (ho :
   row-first : firstRecord row ≡ given (record { first = record { key = key; owner = owner; payload = payload }; rest = after })
   row-first =
       let whole : 68 ≤ length row = rw row-length (omega arith) in
-      let there : 68 + statedLength row ≤ length row = rw (stated, row-length) (omega arith) in
+      let there : 68 + recordDataLength row ≤ length row = rw (stated, row-length) (omega arith) in
       first-given row whole there
       ∙ rw (stated, from-after, from-payload, from-owner, take-at key (owner ++ (len ++ (payload ++ after))) 32 hk, take-at owner (len ++ (payload ++ after)) 32 ho, take-at payload after (length payload) refl)
 
@@ -81,7 +81,7 @@ joined p q = ap₂ (λ (x y : List ℕ). x ++ y) p q
 
 -- a record's bytes are those that it was cut from
 record-bytes : (s : List ℕ) (f : FirstRecord) → Bytes s → IsFirst s f → glueRecord (f .first) ≡ take (68 + length (f .first .payload)) s
-unfolding glueRecord statedLength
+unfolding glueRecord recordDataLength
 record-bytes s f bytes facts =
     let n = length (f .first .payload) in
     let inside = facts .within in

@@ -13,11 +13,11 @@ use Rattle.answer.proofs.Refusing.{none-in-front, more-in-front}
 use Rattle.number.specs.Number.{numberAt}
 use Rattle.account.specs.declared.RecordView.{RecordView}
 use Rattle.account.specs.Record.{Record}
-use Rattle.account.specs.Views.{rowOf}
+use Rattle.account.specs.Views.{recordRow}
 use Rattle.account.proofs.InRow.{row-next}
 use Rattle.table.specs.declared.RecordRead.the-variants.{View, Refused}
 use Rattle.table.specs.Table.{FirstRecord, firstRecord, cutRecords, cutTable}
-use Rattle.table.specs.Views.{viewAt, readAt, placed, placesOf}
+use Rattle.table.specs.Views.{recordViewAt, readAt, recordViewsFrom, placesOf}
 use Rattle.table.proofs.Cutting.{table-counted, IsFirst, first-is, cut-end, cut-more, cut-refused, cut-first, view-first, refused-first}
 
 -- the place after some records that are laid from a place
@@ -25,13 +25,13 @@ pub endOf : ℕ → List Record → ℕ
 endOf place [] = place
 endOf place (r ∷ l) = endOf (place + 68 + length (r .payload)) l
 
-placed-append : (place : ℕ) (l : List Record) (r : Record) → placed place (l ++ (r ∷ [])) ≡ placed place l ++ (viewAt (endOf place l) r ∷ [])
-unfolding placed endOf
+placed-append : (place : ℕ) (l : List Record) (r : Record) → recordViewsFrom place (l ++ (r ∷ [])) ≡ recordViewsFrom place l ++ (recordViewAt (endOf place l) r ∷ [])
+unfolding recordViewsFrom endOf
 placed-append place [] r = refl
-placed-append place (b ∷ l) r = ap (λ (vs : List RecordView). viewAt place b ∷ vs) (placed-append (place + 68 + length (b .payload)) l r)
+placed-append place (b ∷ l) r = ap (λ (vs : List RecordView). recordViewAt place b ∷ vs) (placed-append (place + 68 + length (b .payload)) l r)
 
-pub length-placed : (place : ℕ) (l : List Record) → length (placed place l) ≡ length l
-unfolding placed
+pub length-placed : (place : ℕ) (l : List Record) → length (recordViewsFrom place l) ≡ length l
+unfolding recordViewsFrom
 length-placed place [] = refl
 length-placed place (r ∷ l) = ap suc (length-placed (place + 68 + length (r .payload)) l)
 
@@ -46,12 +46,12 @@ pub record CutSoFar (s : List ℕ) (counted : ℕ) (list : List ℕ) (count at :
   pub most : count ≤ counted
   pub few : counted ≤ 64
   pub within : at ≤ length s
-  pub laid : list ≡ rowOf (placed 2 done) ++ replicate (128 - 2 * count) 0
+  pub laid : list ≡ recordRow (recordViewsFrom 2 done) ++ replicate (128 - 2 * count) 0
   pub ends : endOf 2 done ≡ at
   pub same : cutTable s ≡ change (λ (l : List Record). done ++ l) (cutRecords (counted - count) (drop at s))
 
 pub cut-none : (s : List ℕ) (counted : ℕ) → 2 ≤ length s → counted ≡ numberAt 2 s 0 → counted ≤ 64 → CutSoFar s counted (replicate 128 0) 0 2
-unfolding placed rowOf endOf
+unfolding recordViewsFrom recordRow endOf
 cut-none s counted long e few =
     let all : counted - 0 ≡ counted = omega arith in
     record {
@@ -97,12 +97,12 @@ module _ {s : List ℕ} {counted : ℕ} {list : List ℕ} {count at : ℕ} (so-f
     -- the next record is there
     cut-record : (f : FirstRecord) → firstRecord (drop at s) ≡ given f → IsFirst (drop at s) f
         → CutSoFar s counted (set (set list (2 * count) at) (2 * count + 1) (length (f .first .payload))) (count + 1) (at + 68 + length (f .first .payload))
-    unfolding viewAt
+    unfolding recordViewAt
     cut-record f e facts =
         let done = so-far .done in
         let r = f .first in
         let inside = rw (length-drop at s) at (facts .within) in
-        let place : length (placed 2 done) ≡ count = length-placed 2 done ∙ so-far .long in
+        let place : length (recordViewsFrom 2 done) ≡ count = length-placed 2 done ∙ so-far .long in
         let next : at + (68 + length (r .payload)) ≡ at + 68 + length (r .payload) = omega arith in
         let after : f .rest ≡ drop (at + 68 + length (r .payload)) s =
         facts .rest-is ∙ drop-drop (68 + length (r .payload)) at s ∙ ap (λ (n : ℕ). drop n s) next in
@@ -114,8 +114,8 @@ module _ {s : List ℕ} {counted : ℕ} {list : List ℕ} {count at : ℕ} (so-f
           within = omega arith;
           laid =
               rw (so-far .laid, two-places, placed-append 2 done r, so-far .ends)
-              (subst (λ (n : ℕ). set (set (rowOf (placed 2 done) ++ (0 ∷ 0 ∷ replicate (128 - 2 * (count + 1)) 0)) (2 * n) at) (2 * n + 1) (length (r .payload)) ≡ rowOf (placed 2 done ++ (viewAt at r ∷ [])) ++ replicate (128 - 2 * (count + 1)) 0) place
-              (row-next (placed 2 done) (viewAt at r) (replicate (128 - 2 * (count + 1)) 0)));
+              (subst (λ (n : ℕ). set (set (recordRow (recordViewsFrom 2 done) ++ (0 ∷ 0 ∷ replicate (128 - 2 * (count + 1)) 0)) (2 * n) at) (2 * n + 1) (length (r .payload)) ≡ recordRow (recordViewsFrom 2 done ++ (recordViewAt at r ∷ [])) ++ replicate (128 - 2 * (count + 1)) 0) place
+              (row-next (recordViewsFrom 2 done) (recordViewAt at r) (replicate (128 - 2 * (count + 1)) 0)));
           ends = end-append 2 done r ∙ rw (so-far .ends);
           same =
               so-far .same
@@ -126,7 +126,7 @@ module _ {s : List ℕ} {counted : ℕ} {list : List ℕ} {count at : ℕ} (so-f
     -- the next read is that of a record
     module _ (v : RecordView) (h : readAt s at ≡ View v) where
       pub cut-stays : v .at + 68 + v .len ≤ length s
-      unfolding viewAt
+      unfolding recordViewAt
       cut-stays =
           let (f, e, p) = view-first s at v h in
           let facts = first-is (drop at s) f e in
@@ -134,7 +134,7 @@ module _ {s : List ℕ} {counted : ℕ} {list : List ℕ} {count at : ℕ} (so-f
           rw (← p) (omega arith)
 
       pub cut-one : CutSoFar s counted (set (set list (2 * count) (v .at)) (2 * count + 1) (v .len)) (count + 1) (v .at + 68 + v .len)
-      unfolding viewAt
+      unfolding recordViewAt
       cut-one =
           let (f, e, p) = view-first s at v h in
           let facts = first-is (drop at s) f e in

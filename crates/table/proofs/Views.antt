@@ -9,20 +9,21 @@ use lib.ListN.{length, take, drop, replicate}
 use lib.Seq.{drop-drop, take-at}
 use Rattle.answer.specs.Numbers.{accepts}
 use Rattle.answer.specs.Refusable.{Refusable, given, refused}
+use Rattle.part.specs.Part.{partAt}
+use Rattle.part.proofs.Laws.{part-there}
 use Rattle.account.specs.Record.{Record}
-use Rattle.account.specs.Views.{partAt, recordAt, viewsOf, rowOf, recordsIn}
-use Rattle.account.proofs.Parts.{part-there}
+use Rattle.account.specs.Views.{recordAt, recordViews, recordRow, recordsIn}
 use Rattle.account.proofs.InRow.{views-of-row, length-row}
 use Rattle.table.specs.declared.Places.{Places}
 use Rattle.table.specs.Table.{FirstRecord, cutRecords, cutTable, recordsOf}
-use Rattle.table.specs.Views.{viewAt, placed, placesOf}
+use Rattle.table.specs.Views.{recordViewAt, recordViewsFrom, placesOf}
 use Rattle.table.proofs.Cutting.{IsFirst}
 use Rattle.table.proofs.Parsing.{length-placed}
 use Rattle.table.proofs.Given.{none-given, one-given, table-given, table-refusal}
 
 -- the view of the first record at a place names it
-first-named : (s : List ℕ) (at : ℕ) (f : FirstRecord) → IsFirst (drop at s) f → recordAt s (viewAt at (f .first)) ≡ f .first
-unfolding recordAt viewAt
+first-named : (s : List ℕ) (at : ℕ) (f : FirstRecord) → IsFirst (drop at s) f → recordAt s (recordViewAt at (f .first)) ≡ f .first
+unfolding recordAt recordViewAt
 first-named s at f facts =
     let rest = drop at s in
     let inside = facts .within in
@@ -33,8 +34,8 @@ first-named s at f facts =
     rw (key, owner, payload)
 
 -- the views of the records cut at a place name them
-placed-named : (n : ℕ) (s : List ℕ) (at : ℕ) (l : List Record) → cutRecords n (drop at s) ≡ given l → map (recordAt s) (placed at l) ≡ l
-unfolding placed
+placed-named : (n : ℕ) (s : List ℕ) (at : ℕ) (l : List Record) → cutRecords n (drop at s) ≡ given l → map (recordAt s) (recordViewsFrom at l) ≡ l
+unfolding recordViewsFrom
 placed-named zero s at l e = let (_, none) = none-given (drop at s) l e in rw none
 placed-named (suc n) s at l e =
     let g = one-given n (drop at s) l e in
@@ -48,10 +49,10 @@ placed-named (suc n) s at l e =
 -- ---- what a cut table's places say
 
 places-name : (s : List ℕ) (x : Refusable (List Record)) → cutTable s ≡ x → recordsIn s (take (2 * placesOf x .count) (placesOf x .list)) ≡ recordsOf x
-unfolding recordsIn placesOf viewsOf
+unfolding recordsIn placesOf recordViews
 places-name s (given l) e =
-    let long = length-row (placed 2 l) ∙ ap (λ (n : ℕ). 2 * n) (length-placed 2 l) in
-    rw (take-at (rowOf (placed 2 l)) (replicate (128 - 2 * length l) 0) (2 * length l) long, views-of-row (placed 2 l))
+    let long = length-row (recordViewsFrom 2 l) ∙ ap (λ (n : ℕ). 2 * n) (length-placed 2 l) in
+    rw (take-at (recordRow (recordViewsFrom 2 l)) (replicate (128 - 2 * length l) 0) (2 * length l) long, views-of-row (recordViewsFrom 2 l))
     (placed-named _ s 2 l (table-given s l e .records-given))
 places-name s (refused r) e = refl
 

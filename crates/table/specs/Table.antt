@@ -26,17 +26,17 @@ pub record FirstRecord : Type 0 where
   pub rest : List ℕ
 
 -- the data length that a record states
-unfoldable pub statedLength : List ℕ → ℕ
-statedLength s = number (take 4 (drop 64 s))
+unfoldable pub recordDataLength : List ℕ → ℕ
+recordDataLength s = number (take 4 (drop 64 s))
 
 -- refused where the record's header or its data passes the end
 unfoldable pub firstRecord : List ℕ → Refusable FirstRecord
-unfolding statedLength
+unfolding recordDataLength
 firstRecord s =
-    cond (leb recordHeader (length s) && leb (recordHeader + statedLength s) (length s))
+    cond (leb recordHeader (length s) && leb (recordHeader + recordDataLength s) (length s))
     (given (record {
-      first = record { key = take 32 s; owner = take 32 (drop 32 s); payload = take (statedLength s) (drop recordHeader s) };
-      rest = drop (recordHeader + statedLength s) s;
+      first = record { key = take 32 s; owner = take 32 (drop 32 s); payload = take (recordDataLength s) (drop recordHeader s) };
+      rest = drop (recordHeader + recordDataLength s) s;
     }))
     (refused (answer badTable))
 

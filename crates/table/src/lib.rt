@@ -9,7 +9,7 @@ ghost use mathlib.Core.Path.{_≡_};
 ghost use Rattle.answer.specs.Numbers.{answer as answerOf, badTable};
 ghost use Rattle.answer.specs.Refusable.{refused as Refused};
 ghost use Rattle.table.specs.Table.{cutTable};
-ghost use Rattle.table.specs.Views.{readAt, readAnswer, placesOf};
+ghost use Rattle.table.specs.Views.{readAt, recordAnswer, placesOf};
 
 pub const TABLE_HEADER_SIZE: usize = 2;
 
@@ -56,8 +56,8 @@ fn read_record(table: &[u8], at: usize) -> RecordRead
 }
 
 // The refusal of a read's answer, or acceptance.
-fn read_answer(read: RecordRead) -> Answer
-    ensures { λ r. ⌜ r ≡ readAnswer read ⌝ }
+fn record_answer(read: RecordRead) -> Answer
+    ensures { λ r. ⌜ r ≡ recordAnswer read ⌝ }
 {
     match read {
         RecordRead::View(_) => Answer::of(ACCEPTED),
@@ -99,7 +99,7 @@ pub fn cut_places(table: &[u8]) -> Places
     while count < counted {
         let read = read_record(table, at);
         let RecordRead::View(view) = read else {
-            return Places::refused(read_answer(read));
+            return Places::refused(record_answer(read));
         };
         cut.list[2 * count] = view.at;
         cut.list[2 * count + 1] = view.len;

@@ -7,9 +7,9 @@ use mathlib.Core.Bool.{Bool, cond}
 use native.Mathlib.Numerals.{add-one}
 use native.Mathlib.Omega.{arith}
 use lib.ListN.{length, getD, length-map}
-use Rattle.keys.specs.Keys.{keysIn}
+use Rattle.keys.specs.Views.{keysIn}
 use Rattle.keys.proofs.Laws.{length-keys, key-at}
-use Rattle.account.specs.Views.{zeroView, recordAt, viewsOf}
+use Rattle.account.specs.Views.{zeroRecordView, recordAt, recordViews}
 use Rattle.token.specs.Tokens.{isCounted}
 use Rattle.balance.proofs.Totals.{laid, partly, none-laid, turns-few, turn-counted, turn-laid, record-laid, all-laid}
 use Rattle.balance.proofs.balances.Statement.{statement}
@@ -40,7 +40,7 @@ few c = rw (length-keys (c .args .t4)) (omega (arith, sixteen c))
 abbrev counts : tie.At-loop Inv-loop2 μ-loop2 Inv-loop μ-loop → Bool
 counts c =
     let start = c .before .before .before .before .before in
-    isCounted (start .args .vault .now) (recordAt (start .args .table .now) (getD (viewsOf (start .args .places .now)) (c .loop .at - 1) zeroView))
+    isCounted (start .args .vault .now) (recordAt (start .args .table .now) (getD (recordViews (start .args .places .now)) (c .loop .at - 1) zeroRecordView))
 
 turns : (c : tie.After-turns-for Inv-loop2 μ-loop2 Inv-loop μ-loop)
     → c .turns-for .result ≡ cond (counts (c .before .before .before)) (c .before .before .before .before .counted .result) 0
@@ -91,7 +91,7 @@ loop-again c =
     let ended : at-turn .loop2 .j ≡ turned .turns-for .result = omega arith in (
       omega arith,
       at-loop .loop .inv .1,
-      at-turn .loop2 .inv .2 ∙ record-laid _ _ (start .args .places .now) (keysIn mints) (at-loop .loop .at - 1) zeroView (omega arith) _ (ended ∙ turns turned ∙ ap (λ (n : ℕ). cond (counts at-loop) n 0) all),
+      at-turn .loop2 .inv .2 ∙ record-laid _ _ (start .args .places .now) (keysIn mints) (at-loop .loop .at - 1) zeroRecordView (omega arith) _ (ended ∙ turns turned ∙ ap (λ (n : ℕ). cond (counts at-loop) n 0) all),
     )
 
 mul-k : tie.Need-mul-k Inv-loop2 μ-loop2 Inv-loop μ-loop
@@ -134,7 +134,7 @@ loop2-again c =
       omega arith,
       at-turn .loop2 .inv .1,
       rw (add-one j, c .with-amount .ensures, at-turn .before .before .mint-of .ensures, at-turn .before .amount-of .ensures, turned .before .view-in .ensures, at-turn .loop2 .inv .2)
-          (turn-laid _ _ (start .args .places .now) (keysIn mints) (at-loop .loop .at - 1) j _ inside zeroView (omega arith) counted _ (sym (key-at mints j _ (omega arith))) _ refl),
+          (turn-laid _ _ (start .args .places .now) (keysIn mints) (at-loop .loop .at - 1) j _ inside zeroRecordView (omega arith) counted _ (sym (key-at mints j _ (omega arith))) _ refl),
     )
 
 returns : tie.Need-returns Inv-loop2 μ-loop2 Inv-loop μ-loop

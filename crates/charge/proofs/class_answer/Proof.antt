@@ -7,7 +7,7 @@ use native.Mathlib.Omega.{arith}
 use lib.ListN.{length, drop}
 use borrow.Author.Tests.{not-true, not-false}
 use Rattle.action.specs.Views.{actionAt}
-use Rattle.row.specs.Row.{viewsOf}
+use Rattle.row.specs.Views.{actionViews}
 use Rattle.charge.specs.Classes.{classAnswer}
 use Rattle.charge.specs.Views.{chargesAt}
 use Rattle.charge.proofs.Charging.{class-refused, class-passed, class-end}
@@ -15,12 +15,12 @@ use Rattle.charge.proofs.class_answer.Statement.{statement}
 use Rattle.charge.proofs.class_answer.Tie as tie
 
 abbrev Inv-loop : tie.InvT-loop
-Inv-loop region actions amounts tokens slot n i₀ i =
-    (i ≤ n) × (n ≡ min (length (viewsOf actions)) (length amounts))
-    × (classAnswer tokens slot (drop i (chargesAt region actions amounts)) ≡ classAnswer tokens slot (chargesAt region actions amounts))
+Inv-loop region actions amounts class slot n i₀ i =
+    (i ≤ n) × (n ≡ min (length (actionViews actions)) (length amounts))
+    × (classAnswer class slot (drop i (chargesAt region actions amounts)) ≡ classAnswer class slot (chargesAt region actions amounts))
 
 abbrev μ-loop : tie.MeasureT-loop
-μ-loop region actions amounts tokens slot n i₀ i = n - i
+μ-loop region actions amounts class slot n i₀ i = n - i
 
 charged-requires : tie.Need-charged-requires Inv-loop μ-loop
 charged-requires c κs = tt

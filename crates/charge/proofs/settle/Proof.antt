@@ -5,7 +5,7 @@ use mathlib.Core.Path.{_≡_, refl, sym, _∙_}
 use native.Mathlib.Numerals.{add-one}
 use native.Mathlib.Omega.{arith}
 use lib.ListN.{length, drop}
-use Rattle.row.specs.Row.{viewsOf}
+use Rattle.row.specs.Views.{actionViews}
 use Rattle.charge.specs.Views.{settledViews}
 use Rattle.charge.proofs.Charging.{settle-step, settle-end, settle-all}
 use Rattle.charge.proofs.settle.Statement.{statement}
@@ -13,8 +13,8 @@ use Rattle.charge.proofs.settle.Tie as tie
 
 abbrev Inv-loop : tie.InvT-loop
 Inv-loop region₀ actions amounts slot n i₀ region i =
-    (i ≤ n) × (n ≡ min (length (viewsOf actions)) (length amounts)) × (length region ≡ length region₀)
-    × (settledViews slot (drop i (viewsOf actions)) (drop i amounts) region ≡ settledViews slot (viewsOf actions) amounts region₀)
+    (i ≤ n) × (n ≡ min (length (actionViews actions)) (length amounts)) × (length region ≡ length region₀)
+    × (settledViews slot (drop i (actionViews actions)) (drop i amounts) region ≡ settledViews slot (actionViews actions) amounts region₀)
 
 abbrev μ-loop : tie.MeasureT-loop
 μ-loop region₀ actions amounts slot n i₀ region i = n - i

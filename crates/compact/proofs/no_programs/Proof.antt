@@ -2,7 +2,7 @@
 -- Assumes nothing.
 use borrow.Author.Needs.{needs}
 use Rattle.compact.specs.Compact.{mostInstructions}
-use Rattle.compact.specs.Views.{zeroEntry, entriesOf, refused, programsOf}
+use Rattle.compact.specs.Views.{zeroEntry, entriesOf, readingRefused, parsedPrograms}
 use Rattle.compact.proofs.no_programs.Statement.{statement}
 use Rattle.compact.proofs.no_programs.Tie as tie
 
@@ -10,7 +10,7 @@ of-requires : tie.Need-of-requires
 of-requires c κs = search needs
 
 returns : tie.Need-returns
-unfolding mostInstructions zeroEntry entriesOf refused programsOf
+unfolding mostInstructions zeroEntry entriesOf readingRefused parsedPrograms
 returns c = rw (c .of .ensures)
 
 pub no-programs-spec : {M : Type 1} → statement M

@@ -6,7 +6,7 @@ use mathlib.Core.Path.{sym, ap, _∙_}
 use native.Mathlib.Omega.{arith}
 use borrow.Author.Needs.{needs}
 use Rattle.compact.specs.Compact.{mostInstructions}
-use Rattle.compact.specs.Views.{programsOf}
+use Rattle.compact.specs.Views.{parsedPrograms}
 use Rattle.compact.proofs.Reading.{reading-empty, reading-too-many, read-short}
 use Rattle.compact.proofs.Indexes.{IndexesSoFar, indexes-none, indexes-one, indexes-all}
 use Rattle.compact.proofs.parse_programs.Statement.{statement}
@@ -22,7 +22,7 @@ no-programs-requires : tie.Need-no-programs-requires Inv-loop μ-loop
 no-programs-requires c κs = search needs
 
 returns : tie.Need-returns Inv-loop μ-loop
-returns c = c .no-programs .ensures ∙ sym (ap programsOf (reading-empty _ (c .before .if1 .taken)))
+returns c = c .no-programs .ensures ∙ sym (ap parsedPrograms (reading-empty _ (c .before .if1 .taken)))
 
 shared-slice-read-count : tie.Need-shared-slice-read-count Inv-loop μ-loop
 shared-slice-read-count c = omega arith
@@ -37,7 +37,7 @@ returns-2 : tie.Need-returns-2 Inv-loop μ-loop
 unfolding mostInstructions
 returns-2 c =
     let bytes = c .before .before .before .before .before .args .bytes .now in
-    c .no-programs2 .ensures ∙ sym (ap programsOf (reading-too-many bytes (omega arith) (omega arith)))
+    c .no-programs2 .ensures ∙ sym (ap parsedPrograms (reading-too-many bytes (omega arith) (omega arith)))
 
 loop-holds : tie.Need-loop-holds Inv-loop μ-loop
 unfolding mostInstructions
@@ -59,7 +59,7 @@ returns-3 : tie.Need-returns-3 Inv-loop μ-loop
 returns-3 c =
     let at-head = c .before .before .before in
     let short = sym (at-head .head-at .ensures) ∙ c .before .enum-told .given .1 in
-    c .no-programs3 .ensures ∙ sym (ap programsOf (read-short (at-head .before .before .loop .inv .so-far) (omega arith) short))
+    c .no-programs3 .ensures ∙ sym (ap parsedPrograms (read-short (at-head .before .before .loop .inv .so-far) (omega arith) short))
 
 cast-list : tie.Need-cast-list Inv-loop μ-loop
 cast-list c = search needs

@@ -1,7 +1,7 @@
 -- `compact::refused` meets its contract: it is made of the refusal's number and of no entries.
 -- Assumes nothing.
 use borrow.Author.Needs.{needs}
-use Rattle.compact.specs.Views.{refused}
+use Rattle.compact.specs.Views.{readingRefused}
 use Rattle.compact.proofs.refused.Statement.{statement}
 use Rattle.compact.proofs.refused.Tie as tie
 
@@ -12,7 +12,7 @@ none-requires : tie.Need-none-requires
 none-requires c κs = search needs
 
 returns : tie.Need-returns
-unfolding refused
+unfolding readingRefused
 returns c = rw (c .before .of .ensures, c .none .ensures)
 
 pub refused-spec : {M : Type 1} → statement M

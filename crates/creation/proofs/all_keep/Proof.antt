@@ -6,7 +6,7 @@ use native.Mathlib.Numerals.{add-one}
 use native.Mathlib.Omega.{arith}
 use lib.ListN.{length, drop}
 use borrow.Author.Tests.{not-true, not-false}
-use Rattle.row.specs.Row.{viewsOf, actionsIn}
+use Rattle.row.specs.Views.{actionViews, actionsIn}
 use Rattle.creation.specs.Creation.{allKeep}
 use Rattle.creation.proofs.Scanning.{keep-passed, keep-broken, keep-end}
 use Rattle.creation.proofs.all_keep.Statement.{statement}
@@ -14,7 +14,7 @@ use Rattle.creation.proofs.all_keep.Tie as tie
 
 abbrev Inv-loop : tie.InvT-loop
 Inv-loop region actions rule n i₀ i =
-    (i ≤ n) × (n ≡ length (viewsOf actions)) × (allKeep rule (drop i (actionsIn region actions)) ≡ allKeep rule (actionsIn region actions))
+    (i ≤ n) × (n ≡ length (actionViews actions)) × (allKeep rule (drop i (actionsIn region actions)) ≡ allKeep rule (actionsIn region actions))
 
 abbrev μ-loop : tie.MeasureT-loop
 μ-loop region actions rule n i₀ i = n - i

@@ -2,7 +2,7 @@
 -- Assumes nothing.
 use native.Mathlib.Omega.{arith}
 use mathlib.Core.Path.{sym}
-use Rattle.row.specs.Row.{kindsIn}
+use Rattle.row.specs.Views.{kindsIn}
 use Rattle.creation.proofs.Keeping.{no-whitelist, a-whitelist}
 use borrow.Author.Needs.{needs}
 use Rattle.creation.proofs.both_lists.Statement.{statement}

@@ -5,7 +5,7 @@ use borrow.Author.Tests.{not-true, not-false}
 use mathlib.Core.Bool.{true, false}
 use mathlib.Core.List.{List}
 use Rattle.action.specs.Action.{Action}
-use Rattle.row.specs.Row.{actionsIn}
+use Rattle.row.specs.Views.{actionsIn}
 use Rattle.creation.specs.declared.Rule.the-variants.{Length}
 use Rattle.creation.specs.Creation.{allKeep, kindsOf, bothLists, solRepeats, mintRepeats}
 use Rattle.creation.proofs.Scanning.{kinds-of-actions}

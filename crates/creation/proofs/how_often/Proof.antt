@@ -6,14 +6,14 @@ use mathlib.Core.Logic.{⊎-elim}
 use native.Mathlib.Numerals.{add-one}
 use native.Mathlib.Omega.{arith}
 use lib.ListN.{length, drop}
-use Rattle.row.specs.Row.{viewsOf, kindsIn}
+use Rattle.row.specs.Views.{actionViews, kindsIn}
 use Rattle.creation.specs.Creation.{howOften}
 use Rattle.creation.proofs.Scanning.{often-once, often-not, often-end}
 use Rattle.creation.proofs.how_often.Statement.{statement}
 use Rattle.creation.proofs.how_often.Tie as tie
 
 abbrev Inv-loop : tie.InvT-loop
-Inv-loop actions kind n times₀ i₀ times i = (i ≤ n) × (n ≡ length (viewsOf actions)) × (times ≤ i) × (times + howOften kind (drop i (kindsIn actions)) ≡ howOften kind (kindsIn actions))
+Inv-loop actions kind n times₀ i₀ times i = (i ≤ n) × (n ≡ length (actionViews actions)) × (times ≤ i) × (times + howOften kind (drop i (kindsIn actions)) ≡ howOften kind (kindsIn actions))
 
 abbrev μ-loop : tie.MeasureT-loop
 μ-loop actions kind n times₀ i₀ times i = n - i

@@ -6,7 +6,7 @@ use native.Mathlib.Numerals.{add-one}
 use native.Mathlib.Omega.{arith}
 use lib.ListN.{length, drop}
 use Rattle.action.specs.Views.{actionAt}
-use Rattle.row.specs.Row.{viewsOf, actionsIn}
+use Rattle.row.specs.Views.{actionViews, actionsIn}
 use Rattle.creation.specs.Creation.{mintAgain}
 use Rattle.creation.proofs.Scanning.{again-found, again-passed, again-end}
 use Rattle.creation.proofs.mint_again.Statement.{statement}
@@ -14,7 +14,7 @@ use Rattle.creation.proofs.mint_again.Tie as tie
 
 abbrev Inv-loop : tie.InvT-loop
 Inv-loop region actions view from n i₀ i =
-    (n ≡ length (viewsOf actions))
+    (n ≡ length (actionViews actions))
     × (mintAgain (actionAt region view) (drop i (actionsIn region actions)) ≡ mintAgain (actionAt region view) (drop from (actionsIn region actions)))
 
 abbrev μ-loop : tie.MeasureT-loop

@@ -5,7 +5,7 @@ use mathlib.Core.Path.{_≡_, refl, sym, _∙_}
 use native.Mathlib.Numerals.{add-one}
 use native.Mathlib.Omega.{arith}
 use lib.ListN.{length, drop}
-use Rattle.row.specs.Row.{viewsOf, actionsIn}
+use Rattle.row.specs.Views.{actionViews, actionsIn}
 use Rattle.creation.specs.Creation.{mintRepeats}
 use Rattle.creation.proofs.Scanning.{repeats-found, repeats-passed, repeats-end}
 use Rattle.creation.proofs.mint_repeats.Statement.{statement}
@@ -13,7 +13,7 @@ use Rattle.creation.proofs.mint_repeats.Tie as tie
 
 abbrev Inv-loop : tie.InvT-loop
 Inv-loop region actions n i₀ i =
-    (i ≤ n) × (n ≡ length (viewsOf actions)) × (mintRepeats (drop i (actionsIn region actions)) ≡ mintRepeats (actionsIn region actions))
+    (i ≤ n) × (n ≡ length (actionViews actions)) × (mintRepeats (drop i (actionsIn region actions)) ≡ mintRepeats (actionsIn region actions))
 
 abbrev μ-loop : tie.MeasureT-loop
 μ-loop region actions n i₀ i = n - i

@@ -2,7 +2,7 @@
 -- Assumes nothing.
 use mathlib.Core.Path.{sym}
 use native.Mathlib.Omega.{arith}
-use Rattle.row.specs.Row.{kindsIn}
+use Rattle.row.specs.Views.{kindsIn}
 use Rattle.creation.proofs.Keeping.{two-limits, two-recurring, two-maxima}
 use borrow.Author.Needs.{needs}
 use Rattle.creation.proofs.sol_repeats.Statement.{statement}

@@ -5,7 +5,7 @@ use mathlib.Core.Bool.{Bool, not}
 use borrow.Author.Tests.{not-true, not-false}
 use borrow.Author.Needs.{needs}
 use Rattle.answer.specs.Numbers.{accepts, refuseIf, badRegion}
-use Rattle.row.specs.Row.{actionsIn}
+use Rattle.row.specs.Views.{actionsIn}
 use Rattle.creation.specs.Views.{storedAnswer}
 use Rattle.creation.proofs.Forms.{answer-not-cut, answer-by-form}
 use Rattle.creation.proofs.stored_answer.Statement.{statement}

@@ -5,7 +5,7 @@ use mathlib.Core.Path.{sym, ap, _∙_}
 use mathlib.Core.List.{List}
 use borrow.Author.Tests.{not-true, not-false}
 use Rattle.answer.specs.Numbers.{actionBufferInvalid, actionWhitelistBlacklistConflict}
-use Rattle.row.specs.Row.{actionsIn}
+use Rattle.row.specs.Views.{actionsIn}
 use Rattle.creation.specs.declared.Rule.the-variants.{Fresh}
 use Rattle.creation.specs.Creation.{formOf}
 use Rattle.creation.proofs.Forms.{creation-by-form, creation-refused}

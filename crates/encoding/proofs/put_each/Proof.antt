@@ -10,7 +10,8 @@ use borrow.Author.Needs.{needs}
 use lib.ListN.{length, drop, length-map}
 use lib.Seq.{sets}
 use Rattle.compact.specs.Compact.{mostInstructions, encodeEach}
-use Rattle.compact.specs.Views.{zeroEntry, entriesIn, listOf}
+use Rattle.compact.specs.Entries.{entriesIn, listOf}
+use Rattle.compact.specs.Views.{zeroEntry}
 use Rattle.encoding.specs.Encoding.{encodableEach}
 use Rattle.encoding.proofs.Writing.{sets-append, leftToStore, left-all, left-none, Next, next-entry, length-encode}
 use Rattle.encoding.proofs.put_each.Statement.{statement}

@@ -7,7 +7,7 @@ use native.Mathlib.Omega.{arith}
 use borrow.Author.Needs.{needs}
 use lib.ListN.{length, length-set}
 use Rattle.compact.specs.Compact.{encodeOne}
-use Rattle.compact.specs.Views.{meant}
+use Rattle.compact.specs.Entries.{meant}
 use Rattle.encoding.proofs.Writing.{Keeps, keeps, length-kept, one-stored}
 use Rattle.encoding.proofs.put_one.Statement.{statement}
 use Rattle.encoding.proofs.put_one.Tie as tie

@@ -9,7 +9,7 @@ use borrow.Author.Needs.{needs}
 use lib.ListN.{length, length-map}
 use Rattle.answer.specs.Numbers.{answer, accepted}
 use Rattle.compact.specs.Compact.{mostInstructions, mostAccounts, encode}
-use Rattle.compact.specs.Views.{entriesIn, listOf}
+use Rattle.compact.specs.Entries.{entriesIn, listOf}
 use Rattle.encoding.specs.Encoding.{encodableEach, encodable}
 use Rattle.encoding.proofs.Writing.{length-encode, sized, not-sized, writing-too-many, writing-breaks, writing-keeps, not-encodable, no-room, written, all-stored}
 use Rattle.encoding.proofs.serialize_compact_instructions.Statement.{statement}

@@ -7,8 +7,9 @@ use native.Mathlib.Omega.{arith}
 use borrow.Author.Needs.{needs}
 use lib.ListN.{length, drop, length-map}
 use Rattle.compact.specs.Compact.{mostInstructions, mostAccounts, mostPayload, encode}
-use Rattle.compact.specs.Views.{entriesIn, listOf}
-use Rattle.encoding.specs.Encoding.{sizeIf, encodableEach}
+use Rattle.compact.specs.Entries.{entriesIn, listOf}
+use Rattle.encoding.specs.Views.{sizeIf}
+use Rattle.encoding.specs.Encoding.{encodableEach}
 use Rattle.encoding.proofs.Writing.{sizingOn, sizing-starts, sizing-stops, sizing-goes-on, sizing-ends, size-bound, entry-none}
 use Rattle.encoding.proofs.size_of.Statement.{statement}
 use Rattle.encoding.proofs.size_of.Tie as tie

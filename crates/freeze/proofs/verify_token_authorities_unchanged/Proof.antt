@@ -8,7 +8,7 @@ use native.Mathlib.Numerals.{add-one}
 use native.Mathlib.Omega.{arith}
 use lib.ListN.{length, drop, length-map}
 use borrow.Author.Tests.{not-true, not-false}
-use Rattle.keys.specs.Keys.{isAmong, keysIn}
+use Rattle.keys.specs.Views.{isAmong, keysIn}
 use Rattle.account.specs.Views.{recordsIn}
 use Rattle.freeze.specs.Freeze.{allFrozen}
 use Rattle.freeze.proofs.Freezing.{mint-thawed, mint-kept, mints-end}

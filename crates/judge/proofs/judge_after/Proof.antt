@@ -14,8 +14,8 @@ use Rattle.compact.specs.Compact.{decode}
 use Rattle.table.specs.declared.Places.{Places}
 use Rattle.table.specs.Table.{cutTable}
 use Rattle.outflow.proofs.Outflow.{decreased}
-use Rattle.judge.specs.Judge.{Call, callOf, answerOf, readAnswer}
-use Rattle.judge.proofs.Steps.{records-named, records-after, table-answer, read-answer, region-answer, programs-read, after-refused, instructions-refused, region-refused, judged-cut}
+use Rattle.judge.specs.Judge.{Call, callOf, answerOf, instructionsAnswer}
+use Rattle.judge.proofs.Steps.{records-named, records-after, table-answer, instructions-answer, region-answer, programs-read, after-refused, instructions-refused, region-refused, judged-cut}
 use Rattle.judge.proofs.judge_after.Statement.{statement}
 use Rattle.judge.proofs.judge_after.Tie as tie
 
@@ -49,10 +49,10 @@ after-is c = ap (λ (p : Places). p .answer) (c .cut-places .ensures) ∙ table-
 after-sound : (c : tie.Else1) → accepts (answerOf (cutTable (call-of (start-of (cut-of c)) .after))) ≡ true
 after-sound c = sym (ap accepts (after-is (cut-of c))) ∙ sym (c .before .accepts .ensures) ∙ not-false _ (c .if1 .left)
 
-read-is : (c : tie.After-parse-programs) → c .parse-programs .result .answer ≡ readAnswer (decode (call-of (start-of (cut-of (c .before))) .instructions))
-read-is c = read-answer _ _ (c .parse-programs .ensures)
+read-is : (c : tie.After-parse-programs) → c .parse-programs .result .answer ≡ instructionsAnswer (decode (call-of (start-of (cut-of (c .before))) .instructions))
+read-is c = instructions-answer _ _ (c .parse-programs .ensures)
 
-read-sound : (c : tie.Else2) → accepts (readAnswer (decode (call-of (start-of (cut-of (one-of c))) .instructions))) ≡ true
+read-sound : (c : tie.Else2) → accepts (instructionsAnswer (decode (call-of (start-of (cut-of (one-of c))) .instructions))) ≡ true
 read-sound c = sym (ap accepts (read-is (c .before .before .before))) ∙ sym (c .before .accepts2 .ensures) ∙ not-false _ (c .if2 .left)
 
 region-is : (c : tie.After-stored-answer) → c .stored-answer .result ≡ answerOf (storedActions (region-of (start-of (cut-of (one-of (c .before .before .before .before .before .before .before .before .before))))))

@@ -11,9 +11,9 @@ use Rattle.answer.specs.Numbers.{accepts}
 use Rattle.answer.proofs.Laws.{accepted-is}
 use Rattle.keys.specs.declared.Keys.{Keys}
 use Rattle.action.specs.Action.{Action}
-use Rattle.row.specs.Row.{actionsIn}
+use Rattle.row.specs.Views.{actionsIn}
 use Rattle.row.proofs.Views.{length-actions}
-use Rattle.mints.specs.Mints.{listedMints}
+use Rattle.mints.specs.Views.{listedMints}
 use Rattle.account.specs.Views.{recordsIn}
 use Rattle.judge.specs.Views.{checksFrom}
 use Rattle.judge.proofs.Steps.{no-rules, rules-unchecked, rules-checked, no-views-settled, region-kept, region-written}

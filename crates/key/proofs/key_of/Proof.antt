@@ -6,7 +6,7 @@ use native.Mathlib.Numerals.{add-one}
 use native.Mathlib.Omega.{arith}
 use lib.ListN.{length, getD, take, length-set}
 use lib.Seq.{take-suc, take-suc-set, take-all}
-use Rattle.key.specs.Key.{zeroKey}
+use Rattle.key.specs.Views.{zeroKey}
 use Rattle.key.proofs.Laws.{key-of-its-length, key-of-another-length}
 use Rattle.key.proofs.key_of.Statement.{statement}
 use Rattle.key.proofs.key_of.Tie as tie

@@ -1,12 +1,9 @@
 -- `lookup::is_resolvable` meets its contract: each test that refuses is one of the definition's, and past them the accounts' indexes decide.
 -- Assumes nothing.
 use mathlib.Core.Path.{sym, _∙_}
-use native.Mathlib.Nat.{add-sub-cancel-left}
-use native.Mathlib.Omega.{arith}
 use borrow.Author.Tests.{not-true, not-false}
 use borrow.Author.Needs.{needs}
-use Rattle.compact.specs.Views.{part}
-use Rattle.lookup.proofs.Lookups.{within-ends, accounts-past-the-end, payload-past-the-end, program-past-the-count, accounts-decide}
+use Rattle.lookup.proofs.Lookups.{accounts-past-the-end, payload-past-the-end, program-past-the-count, accounts-decide}
 use Rattle.lookup.proofs.is_resolvable.Statement.{statement}
 use Rattle.lookup.proofs.is_resolvable.Tie as tie
 
@@ -28,36 +25,20 @@ cast-if3 c = search needs
 returns-3 : tie.Need-returns-3
 returns-3 c = sym (program-past-the-count _ _ _ (c .if3 .taken))
 
-add-end : tie.Need-add-end
-add-end c =
-    let at-if1 = c .before .before .before .before .before in
-    let ends = within-ends _ _ (sym (at-if1 .before .within .ensures) ∙ not-false _ (at-if1 .if1 .left)) in
-    omega arith
-
-sub-all-below : tie.Need-sub-all-below
-sub-all-below c = search needs
-
-part-all-below-start : tie.Need-part-all-below-start
-part-all-below-start c = search needs
-
-part-all-below-end : tie.Need-part-all-below-end
-part-all-below-end c =
-    let at-if1 = c .before .before .before .before .before in
-    let ends = within-ends _ _ (sym (at-if1 .before .within .ensures) ∙ not-false _ (at-if1 .if1 .left)) in
-    omega arith
+part-at-requires : tie.Need-part-at-requires
+part-at-requires c κs = search needs
 
 all-below-requires : tie.Need-all-below-requires
 all-below-requires c κs = search needs
 
 returns-4 : tie.Need-returns-4
-unfolding part
 returns-4 c =
-    let at-if3 = c .before .before .before in
+    let at-if3 = c .before .before in
     let at-if2 = at-if3 .before .before in
     let at-if1 = at-if2 .before .before in
     let accounts = sym (at-if1 .before .within .ensures) ∙ not-false _ (at-if1 .if1 .left) in
     let payload = sym (at-if2 .before .within2 .ensures) ∙ not-false _ (at-if2 .if2 .left) in
-    c .all-below .ensures ∙ rw add-sub-cancel-left (sym (accounts-decide _ _ _ accounts payload (at-if3 .if3 .left)))
+    c .all-below .ensures ∙ rw (c .before .part-at .ensures) (sym (accounts-decide _ _ _ accounts payload (at-if3 .if3 .left)))
 
 pub is-resolvable-spec : {M : Type 1} → statement M
 is-resolvable-spec =
@@ -69,9 +50,6 @@ is-resolvable-spec =
     returns-2
     cast-if3
     returns-3
-    add-end
-    sub-all-below
-    part-all-below-start
-    part-all-below-end
+    part-at-requires
     all-below-requires
     returns-4)

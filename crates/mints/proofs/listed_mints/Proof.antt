@@ -13,11 +13,11 @@ use lib.ListN.{length, drop, set}
 use Rattle.key.specs.declared.Key.{Key}
 use Rattle.key.specs.Key.{sameKey}
 use Rattle.keys.specs.declared.Keys.{Keys}
-use Rattle.keys.specs.Keys.{isAmong, keysIn}
+use Rattle.keys.specs.Views.{isAmong, keysIn}
 use Rattle.keys.proofs.Searching.{Searched, search-starts, search-room, search-next, search-ended}
 use Rattle.action.specs.Views.{actionAt}
-use Rattle.row.specs.Row.{viewsOf, actionsIn}
-use Rattle.mints.specs.Mints.{withMint, withMints, listedMints}
+use Rattle.row.specs.Views.{actionViews, actionsIn}
+use Rattle.mints.specs.Views.{withMint, withMints, listedMints}
 use Rattle.mints.proofs.Listing.{Filled, none-filled, filled-next, mint-new, mint-room, mint-same, mints-step, mints-end, mints-none}
 use Rattle.mints.proofs.listed_mints.Statement.{statement}
 use Rattle.mints.proofs.listed_mints.Tie as tie
@@ -30,7 +30,7 @@ abbrev μ-loop2 : tie.MeasureT-loop2
 
 abbrev Inv-loop : tie.InvT-loop
 Inv-loop region actions n mints₀ i₀ mints i =
-    (i ≤ n) × (n ≡ length (viewsOf actions)) × Filled mints × (withMints mints (drop i (actionsIn region actions)) ≡ listedMints (actionsIn region actions))
+    (i ≤ n) × (n ≡ length (actionViews actions)) × Filled mints × (withMints mints (drop i (actionsIn region actions)) ≡ listedMints (actionsIn region actions))
 
 abbrev μ-loop : tie.MeasureT-loop
 μ-loop region actions n mints₀ i₀ mints i = n - i

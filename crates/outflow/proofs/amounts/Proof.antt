@@ -8,7 +8,7 @@ use native.Mathlib.Numerals.{add-one}
 use native.Mathlib.Omega.{arith}
 use lib.ListN.{length, getD, length-map}
 use Rattle.keys.proofs.Searching.{Searched, search-starts, search-room, search-next}
-use Rattle.row.specs.Row.{viewsOf, actionsIn}
+use Rattle.row.specs.Views.{actionViews, actionsIn}
 use Rattle.row.proofs.Views.{length-actions}
 use Rattle.account.specs.Views.{recordsIn}
 use Rattle.balance.specs.declared.Sums.{Sums}
@@ -26,7 +26,7 @@ abbrev μ-loop2 : tie.MeasureT-loop2
 
 abbrev Inv-loop : tie.InvT-loop
 Inv-loop region actions before before-places after after-places vault sol gross mints decreases count n list₀ i₀ list i =
-    (i ≤ n) × (n ≡ min (length (viewsOf actions)) 16)
+    (i ≤ n) × (n ≡ min (length (actionViews actions)) 16)
     × (list ≡ laid (amountFrom vault (recordsIn before before-places) (recordsIn after after-places) sol gross) (actionsIn region actions) i)
 
 abbrev μ-loop : tie.MeasureT-loop

@@ -7,7 +7,7 @@ use mathlib.Core.List.{List, []}
 use native.Mathlib.Numerals.{add-one}
 use native.Mathlib.Omega.{arith}
 use lib.ListN.{length, length-map}
-use Rattle.keys.specs.Keys.{keysIn}
+use Rattle.keys.specs.Views.{keysIn}
 use Rattle.keys.proofs.Laws.{length-keys}
 use Rattle.account.specs.Views.{recordsIn}
 use Rattle.outflow.specs.Outflow.{decreaseOf}

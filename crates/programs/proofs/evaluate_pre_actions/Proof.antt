@@ -6,7 +6,7 @@ use native.Mathlib.Numerals.{add-one}
 use native.Mathlib.Omega.{arith}
 use lib.ListN.{length, drop}
 use borrow.Author.Tests.{not-true, not-false}
-use Rattle.row.specs.Row.{actionsIn}
+use Rattle.row.specs.Views.{actionsIn}
 use Rattle.account.specs.Views.{recordsIn}
 use Rattle.programs.specs.Programs.{programsAnswer}
 use Rattle.programs.proofs.Lists.{programs-refused, programs-passed, programs-end}

@@ -5,7 +5,7 @@ use mathlib.Core.Path.{_≡_, refl, sym, _∙_}
 use native.Mathlib.Numerals.{add-one}
 use native.Mathlib.Omega.{arith}
 use lib.ListN.{length, drop}
-use Rattle.row.specs.Row.{viewsOf, actionsIn}
+use Rattle.row.specs.Views.{actionViews, actionsIn}
 use Rattle.programs.specs.Programs.{inLiveList}
 use Rattle.programs.proofs.Lists.{list-found, list-passed, list-end}
 use Rattle.programs.proofs.in_live_list.Statement.{statement}
@@ -13,7 +13,7 @@ use Rattle.programs.proofs.in_live_list.Tie as tie
 
 abbrev Inv-loop : tie.InvT-loop
 Inv-loop region actions kind slot key n i₀ i =
-    (i ≤ n) × (n ≡ length (viewsOf actions))
+    (i ≤ n) × (n ≡ length (actionViews actions))
     × (inLiveList kind slot key (drop i (actionsIn region actions)) ≡ inLiveList kind slot key (actionsIn region actions))
 
 abbrev μ-loop : tie.MeasureT-loop

@@ -4,7 +4,7 @@ use mathlib.Core.Path.{sym, _∙_}
 use Prim.Native.Nat.{_<_, _≤_}
 use native.Mathlib.Omega.{arith}
 use lib.ListN.{length}
-use Rattle.account.specs.Views.{recordsIn, zeroView}
+use Rattle.account.specs.Views.{recordsIn, zeroRecordView}
 use Rattle.account.proofs.Views.{length-records}
 use Rattle.lookup.proofs.Lookups.{key-there}
 use Rattle.programs.proofs.Lists.{program-out-of-range, program-in-range}
@@ -39,7 +39,7 @@ returns-2 c =
     let row = start .args .places .now in
     let inside : start .args .program < length (recordsIn table row) = rw (length-records table row) (omega arith) in
     c .lists-answer .ensures
-    ∙ rw (c .before .record-key .ensures, c .before .before .view-in .ensures, ← (key-there table row (start .args .program) zeroView (omega arith)))
+    ∙ rw (c .before .record-key .ensures, c .before .before .view-in .ensures, ← (key-there table row (start .args .program) zeroRecordView (omega arith)))
     (sym (program-in-range _ _ _ _ inside))
 
 pub program-answer-spec : {M : Type 1} → statement M

@@ -61,8 +61,8 @@ enum-known-read c = search needs
 enum-told : tie.Need-enum-told Inv-loop μ-loop
 enum-told c = search needs
 
-read-answer-requires : tie.Need-read-answer-requires Inv-loop μ-loop
-read-answer-requires c κs = tt
+record-answer-requires : tie.Need-record-answer-requires Inv-loop μ-loop
+record-answer-requires c κs = tt
 
 refused-requires-3 : tie.Need-refused-requires-3 Inv-loop μ-loop
 refused-requires-3 c κs = tt
@@ -73,7 +73,7 @@ returns-3 c =
     let at-read = c .before .before .before .before in
     let at-loop = at-read .before .before in
     let stopped = cut-stopped (at-loop .loop .inv .1) (omega arith) (told .0 .0) (sym (at-read .read-record .ensures) ∙ told .1) in
-    c .refused3 .ensures ∙ rw (c .before .read-answer .ensures, told .1, stopped)
+    c .refused3 .ensures ∙ rw (c .before .record-answer .ensures, told .1, stopped)
 
 mul-cut : tie.Need-mul-cut Inv-loop μ-loop
 mul-cut c = omega arith
@@ -158,7 +158,7 @@ cut-places-spec =
     read-record-requires
     enum-known-read
     enum-told
-    read-answer-requires
+    record-answer-requires
     refused-requires-3
     returns-3
     mul-cut

@@ -6,7 +6,7 @@ use native.Mathlib.Numerals.{add-one}
 use native.Mathlib.Omega.{arith}
 use borrow.Author.Needs.{needs}
 use lib.ListN.{length, drop, length-map}
-use Rattle.keys.specs.Keys.{isAmong, keysIn}
+use Rattle.keys.specs.Views.{isAmong, keysIn}
 use Rattle.keys.proofs.Laws.{among-found, among-passed, among-end}
 use Rattle.keys.proofs.Keys.holds.Statement.{statement}
 use Rattle.keys.proofs.Keys.holds.Tie as tie

@@ -1,8 +1,8 @@
 -- `keys::Keys::none` meets its contract, by computation.
 -- Assumes nothing.
 use mathlib.Core.Path.{refl}
-use Rattle.key.specs.Key.{zeroKey}
-use Rattle.keys.specs.Keys.{keysOf}
+use Rattle.key.specs.Views.{zeroKey}
+use Rattle.keys.specs.Views.{keysOf}
 use Rattle.keys.proofs.Keys.none.Statement.{statement}
 use Rattle.keys.proofs.Keys.none.Tie as tie
 

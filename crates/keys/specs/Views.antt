@@ -1,4 +1,4 @@
--- Lists of at most 16 keys without repeats.
+-- The values that the code answers with: lists of at most 16 keys without repeats.
 -- Assumes nothing.
 use Prim.Native.Nat.{ℕ, _+_, _-_}
 use mathlib.Core.Bool.{Bool, false, not, cond, _&&_, _||_}
@@ -6,7 +6,8 @@ use mathlib.Core.List.{List, [], _∷_, _++_, map}
 use lib.Dec.{eqb, ltb}
 use lib.ListN.{length, take, set, replicate}
 use Rattle.key.specs.declared.Key.{Key}
-use Rattle.key.specs.Key.{keyLength, sameKey, zeroKey}
+use Rattle.key.specs.Key.{keyLength, sameKey}
+use Rattle.key.specs.Views.{zeroKey}
 use Rattle.keys.specs.declared.Keys.{Keys}
 
 -- the most keys of a list
@@ -17,10 +18,6 @@ mostKeys = 16
 unfoldable pub isAmong : List ℕ → List (List ℕ) → Bool
 isAmong key [] = false
 isAmong key (k ∷ ks) = sameKey k key || isAmong key ks
-
--- some keys and one more, unless it is among them
-unfoldable pub withOne : List (List ℕ) → List ℕ → List (List ℕ)
-withOne ks key = cond (isAmong key ks) ks (ks ++ (key ∷ []))
 
 -- the keys that a list holds
 unfoldable pub keysIn : Keys → List (List ℕ)

@@ -1,8 +1,8 @@
--- `region::Parsed::refused` meets its contract: its row holds zero views.
+-- `region::ParsedActions::refused` meets its contract: its row holds zero views.
 -- Assumes nothing.
 use Rattle.region.specs.Views.{parsedOf}
-use Rattle.region.proofs.Parsed.refused.Statement.{statement}
-use Rattle.region.proofs.Parsed.refused.Tie as tie
+use Rattle.region.proofs.ParsedActions.refused.Statement.{statement}
+use Rattle.region.proofs.ParsedActions.refused.Tie as tie
 use mathlib.Core.Path.{refl}
 
 returns : tie.Need-returns

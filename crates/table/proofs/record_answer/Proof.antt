@@ -1,9 +1,9 @@
--- `table::read_answer` meets its contract, by the cases of the read.
+-- `table::record_answer` meets its contract, by the cases of the read.
 -- Assumes nothing.
 
 use borrow.Author.Needs.{needs}
-use Rattle.table.proofs.read_answer.Statement.{statement}
-use Rattle.table.proofs.read_answer.Tie as tie
+use Rattle.table.proofs.record_answer.Statement.{statement}
+use Rattle.table.proofs.record_answer.Tie as tie
 
 enum-told : tie.Need-enum-told
 enum-told c = search needs
@@ -20,5 +20,5 @@ returns c = cc (c .of .ensures)
 returns-2 : tie.Need-returns-2
 returns-2 c = search needs
 
-pub read-answer-spec : {M : Type 1} → statement M
-read-answer-spec = tie.close (tie.spec enum-told of-requires enum-known-read returns returns-2)
+pub record-answer-spec : {M : Type 1} → statement M
+record-answer-spec = tie.close (tie.spec enum-told of-requires enum-known-read returns returns-2)
