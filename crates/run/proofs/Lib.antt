@@ -1,2 +1,3 @@
 pub mod Gathering
 pub mod Laws
+pub mod Used
