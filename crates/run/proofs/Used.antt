@@ -1,11 +1,11 @@
--- What is used of a piece is never more than the piece.
+-- What is used of a piece is never more than the piece, and the end of the input uses nothing.
 -- Assumes nothing.
 use Prim.Native.Nat.{ℕ, _≤_}
 use mathlib.Core.Path.{_≡_, refl}
 use mathlib.Core.Bool.{Bool, true, false}
 use mathlib.Core.List.{List}
 use native.Mathlib.Omega.{arith}
-use lib.Dec.{leb}
+use lib.Dec.{leb, eqb}
 use lib.ListN.{length}
 use Rattle.answer.specs.declared.Answer.{Answer}
 use Rattle.answer.specs.Numbers.{accepts}
@@ -17,8 +17,8 @@ use Rattle.frame.specs.Frame.{openingSize, openingRegion, frontOf}
 use Rattle.run.specs.declared.Stage.{Stage}
 use Rattle.run.specs.declared.Stage.the-variants.{Opening, Calls, Over}
 use Rattle.run.specs.declared.State.{State}
-use Rattle.run.specs.Views.{opened, called, takenOf, openingAnswer, callAnswer, fedOpening, fedCall, fedAt, fed}
-use Rattle.run.proofs.Laws.{opened-accepted, opened-refused, call-answered, call-stops, call-waits}
+use Rattle.run.specs.Views.{opened, called, marked, takenOf, openingAnswer, callAnswer, fedOpening, fedCall, fedAt, fed}
+use Rattle.run.proofs.Laws.{marked-opening, marked-over, opened-accepted, opened-refused, call-answered, call-stops, call-waits}
 
 -- whatever is answered, so many bytes are used as were taken
 module _ (s : State) (used : ℕ) where
@@ -47,3 +47,17 @@ used-at Over s opening frame piece = omega arith
 pub used-within : (s : State) (opening frame piece : List ℕ) → fed s opening frame piece .used ≤ length piece
 unfolding fed
 used-within s opening frame piece = used-at (s .stage) s opening frame piece
+
+module _ (s : State) where
+  between-uses : (none : Bool) → s .stage ≡ Calls → eqb (s .got) 0 ≡ none → marked s .used ≡ 0
+  unfolding marked
+  between-uses true at is = rw (at, is)
+  between-uses false at is = rw (at, is)
+
+  marked-at : (stage : Stage) → s .stage ≡ stage → marked s .used ≡ 0
+  marked-at Opening at = rw (marked-opening s at)
+  marked-at Calls at = between-uses _ at refl
+  marked-at Over at = rw (marked-over s at)
+
+  pub end-uses-nothing : marked s .used ≡ 0
+  end-uses-nothing = marked-at _ refl
