@@ -1,7 +1,5 @@
 -- `replay::go_on` uses no more than is left, by the run's laws.
 -- Assumes nothing.
-use Prim.Native.Nat.{_≤_}
-use mathlib.Core.Path.{ap}
 use native.Mathlib.Omega.{arith}
 use Rattle.run.proofs.Used.{used-within, end-uses-nothing}
 use borrow.Author.Needs.{needs}
