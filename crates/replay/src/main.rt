@@ -1,22 +1,15 @@
-// Replays a session: standard input is a region and calls on it, and each gets a line. Memory is
-// fixed, whatever the input's length.
+// Replays a session: standard input is a region and calls on it, and each gets a line as soon as its
+// bytes are there. Memory is fixed, whatever the input's length.
 use answer::Answer;
-use frame::CALL_HEAD_SIZE;
-use frame::Call;
-use frame::Frame;
-use frame::Opening;
-use frame::REGION_LENGTH_SIZE;
-use frame::Tally;
 use libc::STDIN_FILENO;
 use libc::STDOUT_FILENO;
+use run::Fed;
+use run::MAX_CALL;
+use run::MAX_OPENING;
+use run::Said;
+use run::State;
 ghost use Prim.Native.Nat.{_≤_};
 ghost use lib.ListN.{length};
-
-// Whether there may be a call more, and the tally up to there.
-enum Next {
-    Go(Tally),
-    Stop,
-}
 
 fn print_number(word: &[u8], number: u64) {
     io::write_all(STDOUT_FILENO, word);
@@ -28,108 +21,88 @@ fn print_line(word: &[u8], number: u64) {
     io::write_all(STDOUT_FILENO, b"\n");
 }
 
-fn print_cut() {
-    io::write_all(STDOUT_FILENO, b"cut\n");
-}
-
 fn print_call(calls: u64, answer: Answer) {
     print_number(b"call ", calls);
     print_line(b" ", answer.number as u64);
 }
 
-// Reads `len` bytes to a place, or as many as there are, and gives the place after them.
-fn read_more(buffer: &mut [u8], at: usize, len: usize) -> usize
-    requires { ⌜ at ≤ length (now buffer) ⌝ }
-    ensures { λ r. ⌜ r ≤ length (now (buffer .exit)) ⌝ }
-{
-    if buffer.len() - at < len {
-        return at;
-    }
-    at + io::read_full(STDIN_FILENO, &mut buffer[at..at + len])
-}
-
-// Reads the opening, and says how many bytes of it there are.
-fn fetch_opening(buffer: &mut [u8]) -> usize
-    ensures { λ r. ⌜ r ≤ length (now (buffer .exit)) ⌝ }
-{
-    let got = read_more(buffer, 0, REGION_LENGTH_SIZE);
-    let len = frame::region_length(&buffer[0..got]);
-    read_more(buffer, got, len)
-}
-
-// Reads a call, and says how many bytes of it there are.
-fn fetch_call(buffer: &mut [u8]) -> usize
-    ensures { λ r. ⌜ r ≤ length (now (buffer .exit)) ⌝ }
-{
-    let got = read_more(buffer, 0, CALL_HEAD_SIZE);
-    let len = frame::parts_to_read(&buffer[0..got]);
-    read_more(buffer, got, len)
-}
-
-fn answer_call(region: &mut [u8], bytes: &[u8], call: Call, tally: Tally) -> Next {
-    let answer = framed::judge_call(region, bytes, call);
-    let more = tally.with(answer.accepts());
-    print_call(more.calls, answer);
-    Next::Go(more)
-}
-
-fn answer_frame(region: &mut [u8], bytes: &[u8], tally: Tally) -> Next {
-    let read = frame::read_call(bytes);
-    match read {
-        Frame::Whole(call) => answer_call(region, bytes, call, tally),
-        Frame::Cut => {
-            print_cut();
-            Next::Stop
+// That more is needed is no line.
+fn print_said(said: Said) {
+    match said {
+        Said::More => {}
+        Said::Region(answer) => print_line(b"region ", answer.number as u64),
+        Said::Call(calls, answer) => print_call(calls, answer),
+        Said::Cut => {
+            io::write_all(STDOUT_FILENO, b"cut\n");
         }
-        Frame::End => Next::Stop,
+        Said::End(accepted) => print_line(b"end ", accepted),
     }
 }
 
-fn replay_one(region: &mut [u8], buffer: &mut [u8], tally: Tally) -> Next {
-    let end = fetch_call(buffer);
-    answer_frame(region, &buffer[0..end], tally)
+// Where what is left of a piece starts and ends.
+struct Left {
+    at: usize,
+    end: usize,
 }
 
-// Replays the calls and gives how many were accepted. A proved loop has to end, so it counts its
-// turns down, from a number that no run uses up.
-fn replay_calls(region: &mut [u8], buffer: &mut [u8]) -> u64 {
-    let mut tally = Tally::none();
+// What is left, or where more is needed what one read gives: a piece that ends at 0 where the input
+// ended or the read failed.
+fn left_or_read(left: Left, said: Said, piece: &mut [u8]) -> Left
+    requires { ⌜ left .at ≤ left .end ⌝ }
+    requires { ⌜ left .end ≤ length (now piece) ⌝ }
+    ensures { λ r. ⌜ r .at ≤ r .end ⌝ }
+    ensures { λ r. ⌜ r .end ≤ length (now (piece .exit)) ⌝ }
+{
+    if let Said::More = said {
+        let got = libc::read(STDIN_FILENO, piece);
+        let end = io::count(got, piece);
+        return Left { at: 0, end };
+    }
+    left
+}
+
+// Feeds what is left of a piece, or the end of the input.
+fn go_on(
+    state: State,
+    ended: bool,
+    opening: &mut [u8; MAX_OPENING],
+    frame: &mut [u8; MAX_CALL],
+    left: &[u8],
+) -> Fed
+    ensures { λ r. ⌜ r .used ≤ length (now (left .entry)) ⌝ }
+{
+    if ended {
+        return state.end();
+    }
+    run::feed(state, opening, frame, left)
+}
+
+// Reads where more is needed, goes on, and prints what happened, up to the end. A proved loop has to
+// end, so it counts its turns down: each reads or answers, and no run uses that many up.
+fn replay(opening: &mut [u8; MAX_OPENING], frame: &mut [u8; MAX_CALL], piece: &mut [u8]) {
+    let mut state = State::new();
+    let mut said = Said::More;
+    let mut left = Left { at: 0, end: 0 };
     let mut turns = u64::MAX;
     while turns > 0 {
-        let Next::Go(more) = replay_one(region, buffer, tally) else {
-            return tally.accepted;
-        };
-        tally = more;
+        left = left_or_read(left, said, piece);
+        let at = left.at;
+        let end = left.end;
+        let fed = go_on(state, end == 0, opening, frame, &piece[at..end]);
+        state = fed.state;
+        said = fed.said;
+        left.at += fed.used;
+        print_said(said);
+        if let Said::End(_) = said {
+            return;
+        }
         turns -= 1;
     }
-    tally.accepted
-}
-
-fn replay_region(region: &mut [u8]) {
-    let created = creation::validate_actions_buffer(region);
-    print_line(b"region ", created.number as u64);
-    if !created.accepts() {
-        print_line(b"end ", 0);
-        return;
-    }
-    let mut buffer = [0u8; 60076];
-    let accepted = replay_calls(region, &mut buffer);
-    print_line(b"end ", accepted);
-}
-
-fn replay_opening(buffer: &mut [u8]) {
-    let got = fetch_opening(buffer);
-    let Opening::Region(part) = frame::read_opening(&buffer[0..got]) else {
-        print_cut();
-        print_line(b"end ", 0);
-        return;
-    };
-    let at = part.at;
-    let end = at + part.len;
-    replay_region(&mut buffer[at..end]);
 }
 
 fn main() {
-    let mut buffer = [0u8; 65537];
-    replay_opening(&mut buffer);
+    let mut opening = [0u8; MAX_OPENING];
+    let mut frame = [0u8; MAX_CALL];
+    let mut piece = [0u8; 65536];
+    replay(&mut opening, &mut frame, &mut piece);
 }

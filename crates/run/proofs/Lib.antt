@@ -7,3 +7,4 @@ pub mod OpeningStep
 pub mod Pieces
 pub mod Sentence
 pub mod Theorems
+pub mod Used

@@ -27,21 +27,21 @@ stopped-requires c κs = search needs
 returns : tie.Need-returns
 returns c =
     let args = c .before .before .before .before .before .args in
-    let is = at-opening (args .state) (args .opening .now) (args .frame .now) (args .piece .now) (cc) in
+    let is = at-opening (args .state) (args .opening .now) (args .frame .now) (args .piece .now) (c .before .before .enum-told .given .1) in
     let made = c .feed-opening .ensures in
     (made .0 ∙ sym (is .result), (made .1 ∙ sym (is .opening-is), sym (is .frame-is)))
 
 returns-2 : tie.Need-returns-2
 returns-2 c =
     let args = c .before .before .before .before .before .before .args in
-    let is = at-calls (args .state) (args .opening .now) (args .frame .now) (args .piece .now) (cc) in
+    let is = at-calls (args .state) (args .opening .now) (args .frame .now) (args .piece .now) (c .before .before .before .enum-told2 .given .1) in
     let made = c .feed-call .ensures in
     (made .0 ∙ sym (is .result), (made .1 .0 ∙ sym (is .opening-is), made .1 .1 ∙ sym (is .frame-is)))
 
 returns-3 : tie.Need-returns-3
 returns-3 c =
     let args = c .before .before .before .before .args in
-    let is = at-over (args .state) (args .opening .now) (args .frame .now) (args .piece .now) (cc) in
+    let is = at-over (args .state) (args .opening .now) (args .frame .now) (args .piece .now) (c .before .enum-told3 .given .1) in
     (c .stopped .ensures ∙ sym (is .result), (sym (is .opening-is), sym (is .frame-is)))
 
 pub feed-spec : {M : Type 1} → statement M

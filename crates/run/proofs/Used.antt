@@ -1,0 +1,63 @@
+-- What is used of a piece is never more than the piece, and the end of the input uses nothing.
+-- Assumes nothing.
+use Prim.Native.Nat.{ℕ, _≤_}
+use mathlib.Core.Path.{_≡_, refl}
+use mathlib.Core.Bool.{Bool, true, false}
+use mathlib.Core.List.{List}
+use native.Mathlib.Omega.{arith}
+use lib.Dec.{leb, eqb}
+use lib.ListN.{length}
+use Rattle.answer.specs.declared.Answer.{Answer}
+use Rattle.answer.specs.Numbers.{accepts}
+use Rattle.number.specs.Number.{numberAt}
+use Rattle.creation.specs.Creation.{creation}
+use Rattle.frame.specs.declared.Front.{Front}
+use Rattle.frame.specs.declared.Front.the-variants.{Whole, Long, Short}
+use Rattle.frame.specs.Frame.{openingSize, openingRegion, frontOf}
+use Rattle.run.specs.declared.Stage.{Stage}
+use Rattle.run.specs.declared.Stage.the-variants.{Opening, Calls, Over}
+use Rattle.run.specs.declared.State.{State}
+use Rattle.run.specs.Views.{opened, called, marked, takenOf, openingAnswer, callAnswer, fedOpening, fedCall, fedAt, fed}
+use Rattle.run.proofs.Laws.{marked-opening, marked-over, opened-accepted, opened-refused, call-answered, call-stops, call-waits}
+
+-- whatever is answered, so many bytes are used as were taken
+module _ (s : State) (used : ℕ) where
+  opened-uses : (region : ℕ) (a : Answer) (accepted : Bool) → accepts a ≡ accepted → opened s used region a .used ≡ used
+  opened-uses region a true is = rw (opened-accepted s used region a is)
+  opened-uses region a false is = rw (opened-refused s used region a is)
+
+  module _ (there : List ℕ) where
+    opening-uses : (all : Bool) → leb (openingSize there) (length there) ≡ all → openingAnswer s used there .used ≡ used
+    unfolding openingAnswer
+    opening-uses true is = rw is (opened-uses (numberAt 2 there 0) (creation (openingRegion there)) _ refl)
+    opening-uses false is = rw is
+
+    call-uses : (region : List ℕ) (front : Front) → frontOf there ≡ front → callAnswer s used region there .used ≡ used
+    unfolding called
+    call-uses region (Whole c) is = rw (call-answered s used there region c is)
+    call-uses region Long is = rw (call-stops s used there region is)
+    call-uses region Short is = rw (call-waits s used there region is)
+
+used-at : (stage : Stage) (s : State) (opening frame piece : List ℕ) → fedAt stage s opening frame piece .used ≤ length piece
+unfolding takenOf fedOpening fedCall
+used-at Opening s opening frame piece = rw (opening-uses s _ _ _ refl) (omega arith)
+used-at Calls s opening frame piece = rw (call-uses s _ _ _ _ refl) (omega arith)
+used-at Over s opening frame piece = omega arith
+
+pub used-within : (s : State) (opening frame piece : List ℕ) → fed s opening frame piece .used ≤ length piece
+unfolding fed
+used-within s opening frame piece = used-at (s .stage) s opening frame piece
+
+module _ (s : State) where
+  between-uses : (none : Bool) → s .stage ≡ Calls → eqb (s .got) 0 ≡ none → marked s .used ≡ 0
+  unfolding marked
+  between-uses true at is = rw (at, is)
+  between-uses false at is = rw (at, is)
+
+  marked-at : (stage : Stage) → s .stage ≡ stage → marked s .used ≡ 0
+  marked-at Opening at = rw (marked-opening s at)
+  marked-at Calls at = between-uses _ at refl
+  marked-at Over at = rw (marked-over s at)
+
+  pub end-uses-nothing : marked s .used ≡ 0
+  end-uses-nothing = marked-at _ refl
