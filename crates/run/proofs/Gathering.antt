@@ -135,27 +135,24 @@ gathered stage memory piece once twice rest got head first size second h a b c d
       g ∙ rw (c, e) (pasted-twice memory piece got first second h few),
     )
 
-pub clamped : (n : ℕ) (s : List ℕ) → take (min n (length s)) s ≡ take n s
-clamped n s =
+-- a place past the end does what the end does
+past-the-end : (f : ℕ → List ℕ) (k : ℕ) → ((n : ℕ) → k ≤ n → f n ≡ f k) → (n : ℕ) → f (min n k) ≡ f n
+past-the-end f k same n =
     ⊎-elim
     (λ few.
-    let e : min n (length s) ≡ n = omega arith in
+    let e : min n k ≡ n = omega arith in
     rw e)
     (λ many.
-    let e : min n (length s) ≡ length s = omega arith in
-    rw (e, take-length s) (sym (take-all n s (omega arith))))
-    (le-or-lt n (length s))
+    let e : min n k ≡ k = omega arith in
+    let over : k ≤ n = omega arith in
+    rw e (sym (same n over)))
+    (le-or-lt n k)
+
+pub clamped : (n : ℕ) (s : List ℕ) → take (min n (length s)) s ≡ take n s
+clamped n s = past-the-end (λ (m : ℕ). take m s) (length s) (λ m h. take-all m s h ∙ sym (take-length s)) n
 
 clamped-drop : (n : ℕ) (s : List ℕ) → drop (min n (length s)) s ≡ drop n s
-clamped-drop n s =
-    ⊎-elim
-    (λ few.
-    let e : min n (length s) ≡ n = omega arith in
-    rw e)
-    (λ many.
-    let e : min n (length s) ≡ length s = omega arith in
-    rw (e, drop-length s) (sym (drop-of-length-le s {i = n} (omega arith))))
-    (le-or-lt n (length s))
+clamped-drop n s = past-the-end (λ (m : ℕ). drop m s) (length s) (λ m h. drop-of-length-le s {i = m} h ∙ sym (drop-length s)) n
 
 -- what is at hand after a piece, where the state's count of bytes may be anything
 pub record Handed (stage : Stage) (n used : ℕ) (memory piece after there : List ℕ) : Type 0 where

@@ -1,6 +1,7 @@
 pub mod CallStep
 pub mod Coming
 pub mod Cutting
+pub mod Example
 pub mod Gathering
 pub mod Laws
 pub mod OpeningStep

@@ -29,6 +29,12 @@ takes-all size there many h = omega arith
 takes-some : (size there many : ℕ) → there < size → size ≤ there + many → (there + min (size - there) many ≡ size) × (min (size - there) many ≤ many)
 takes-some size there many l h = (omega arith, omega arith)
 
+room-left : (size there many : ℕ) → min (size - there) many < many → size ≤ there + many
+room-left size there many h = omega arith
+
+not-less : (size there many : ℕ) → min (size - there) many < many → there + min (size - there) many < size → ⊥
+not-less size there many h l = omega arith
+
 module _ (stage : Stage) (there piece : List ℕ) where
   -- how many bytes of the piece are taken, what is at hand then, and what is left of the piece
   abbrev pub taken : ℕ
@@ -56,7 +62,7 @@ module _ (stage : Stage) (there piece : List ℕ) where
       let all : taken ≡ length piece = takes-all (wantedOf stage (there ++ piece)) (length there) (length piece) (rw (← length-append there piece) h) in
       on (rw (take-all taken piece (rw all (le-refl _))) h)
 
-  gets-whole : length there < wantedOf stage there → wantedOf stage (there ++ piece) ≤ length (there ++ piece) → Goes
+  gets-whole : length there < wantedOf stage there → wantedOf stage (there ++ piece) ≤ length (there ++ piece) → length at-hand ≡ wantedOf stage at-hand
   unfolding takenOf
   gets-whole short h =
       let size = wantedOf stage (there ++ piece) in
@@ -65,10 +71,33 @@ module _ (stage : Stage) (there piece : List ℕ) where
       let long : length at-hand ≡ size = length-append there (take taken piece) ∙ rw (length-take-le taken piece few) reaches in
       let head : headOf stage ≤ length at-hand = rw long (head-first stage (there ++ piece)) in
       let told : wantedOf stage at-hand ≡ size = sym (wanted-before-more stage at-hand left head) ∙ ap (wantedOf stage) joined in
-      whole (long ∙ sym told)
+      long ∙ sym told
+
+  -- what is not whole then has taken all of the piece, whatever was there
+  pub all-taken : length at-hand < wantedOf stage at-hand → taken ≡ length piece
+  unfolding takenOf
+  all-taken less =
+      let size = wantedOf stage (there ++ piece) in
+      ⊎-elim
+      (λ most. omega arith)
+      (λ some.
+      let enough : size ≤ length there + length piece = room-left size (length there) (length piece) some in
+      let long : length at-hand ≡ length there + taken = length-append there (take taken piece) ∙ rw (length-take-le taken piece (omega arith)) in
+      absurd
+      (⊎-elim
+      (λ head.
+      let same = wanted-before-more stage there (take taken piece) head in
+      let told = wanted-before-more stage there piece head in
+      not-less size (length there) (length piece) some (rw long at (rw (same, ← told) at less)))
+      (λ short.
+      let told = wanted-short stage there short in
+      let whole-now = gets-whole (rw told short) (rw length-append enough) in
+      omega arith)
+      (le-or-lt (headOf stage) (length there))))
+      (le-or-lt (length piece) taken)
 
   pub goes : length there < wantedOf stage there → Goes
-  goes short = ⊎-elim (gets-whole short) goes-on (le-or-lt (wantedOf stage (there ++ piece)) (length (there ++ piece)))
+  goes short = ⊎-elim (λ enough. whole (gets-whole short enough)) goes-on (le-or-lt (wantedOf stage (there ++ piece)) (length (there ++ piece)))
 
 -- ---- what lies in a memory after a piece
 

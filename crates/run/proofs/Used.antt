@@ -1,12 +1,13 @@
--- What is used of a piece is never more than the piece, and the end of the input uses nothing.
+-- What is used of a piece is never more than the piece, and all of it where more is needed; the end of the input uses nothing.
 -- Assumes nothing.
-use Prim.Native.Nat.{ℕ, _≤_}
-use mathlib.Core.Path.{_≡_, refl}
+use Prim.Native.Nat.{ℕ, _<_, _≤_}
+use mathlib.Core.Path.{_≡_, refl, ap, _∙_}
 use mathlib.Core.Bool.{Bool, true, false}
 use mathlib.Core.List.{List}
+use mathlib.Core.Logic.{⊎-elim}
 use native.Mathlib.Omega.{arith}
 use lib.Dec.{leb, eqb}
-use lib.ListN.{length}
+use lib.ListN.{length, take}
 use Rattle.answer.specs.declared.Answer.{Answer}
 use Rattle.answer.specs.Numbers.{accepts}
 use Rattle.number.specs.Number.{numberAt}
@@ -14,11 +15,16 @@ use Rattle.creation.specs.Creation.{creation}
 use Rattle.frame.specs.declared.Front.{Front}
 use Rattle.frame.specs.declared.Front.the-variants.{Whole, Long, Short}
 use Rattle.frame.specs.Frame.{openingSize, openingRegion, frontOf}
+use Rattle.frame.specs.Views.{callSize}
+use Rattle.frame.proofs.Theorems.{le-or-lt, Sized, short, long, past, there as all-there, sized}
 use Rattle.run.specs.declared.Stage.{Stage}
 use Rattle.run.specs.declared.Stage.the-variants.{Opening, Calls, Over}
 use Rattle.run.specs.declared.State.{State}
+use Rattle.run.specs.declared.Said.the-variants.{More, Region}
+use Rattle.run.specs.declared.Fed.{Fed}
 use Rattle.run.specs.Views.{opened, called, marked, takenOf, openingAnswer, callAnswer, fedOpening, fedCall, fedAt, fed}
-use Rattle.run.proofs.Laws.{marked-opening, marked-over, opened-accepted, opened-refused, call-answered, call-stops, call-waits}
+use Rattle.run.proofs.Laws.{marked-opening, marked-over, opened-accepted, opened-refused, opening-answered, call-answered, call-stops, call-waits}
+use Rattle.run.proofs.Pieces.{all-taken, there-then}
 
 -- whatever is answered, so many bytes are used as were taken
 module _ (s : State) (used : ℕ) where
@@ -47,6 +53,55 @@ used-at Over s opening frame piece = omega arith
 pub used-within : (s : State) (opening frame piece : List ℕ) → fed s opening frame piece .used ≤ length piece
 unfolding fed
 used-within s opening frame piece = used-at (s .stage) s opening frame piece
+
+-- ---- more is needed only where all of a piece was used
+
+module _ (s : State) (used : ℕ) where
+  opened-says : (region : ℕ) (a : Answer) (accepted : Bool) → accepts a ≡ accepted → opened s used region a .said ≡ Region a
+  opened-says region a true is = rw (opened-accepted s used region a is)
+  opened-says region a false is = rw (opened-refused s used region a is)
+
+  module _ (there : List ℕ) where
+    opening-more : openingAnswer s used there .said ≡ More → length there < openingSize there
+    opening-more more = ⊎-elim (λ all. absurd (never all)) (λ less. less) (le-or-lt (openingSize there) (length there))
+      where
+        never : openingSize there ≤ length there → ⊥
+        never all =
+            let says = opened-says (numberAt 2 there 0) (creation (openingRegion there)) _ refl in
+            let is = ap (λ (r : Fed). r .said) (opening-answered s used there all) ∙ says in
+            let z : _≡_ {A = ℕ} 0 1 = cc in
+            omega arith
+
+    call-more : (region : List ℕ) → callAnswer s used region there .said ≡ More → length there < callSize there
+    unfolding called
+    call-more region more = go (sized there)
+      where
+        go : Sized there → length there < callSize there
+        go (short less size _) = omega arith
+        go (long _ _ _ front) =
+            let is = ap (λ (r : Fed). r .said) (call-stops s used there region front) in
+            absurd (let z : _≡_ {A = ℕ} 0 1 = cc in omega arith)
+        go (past _ _ _ less _) = less
+        go (all-there _ _ _ _ front) =
+            let is = ap (λ (r : Fed). r .said) (call-answered s used there region _ front) in
+            absurd (let z : _≡_ {A = ℕ} 0 1 = cc in omega arith)
+
+more-at : (stage : Stage) (s : State) (opening frame piece : List ℕ) → fedAt stage s opening frame piece .said ≡ More
+    → fedAt stage s opening frame piece .used ≡ length piece
+unfolding fedOpening fedCall
+more-at Opening s opening frame piece more =
+    rw (opening-uses s _ _ _ refl)
+    (all-taken Opening (take (s .got) opening) piece (rw (there-then Opening (s .got) opening piece refl) at (opening-more s _ _ more)))
+more-at Calls s opening frame piece more =
+    rw (call-uses s _ _ _ _ refl)
+    (all-taken Calls (take (s .got) frame) piece (rw (there-then Calls (s .got) frame piece refl) at (call-more s _ _ _ more)))
+more-at Over s opening frame piece more = absurd (let z : _≡_ {A = ℕ} 0 1 = cc in omega arith)
+
+-- so who is told that more is needed may go on with the next piece
+pub where-more-is-needed-all-was-used : (s : State) (opening frame piece : List ℕ) → fed s opening frame piece .said ≡ More
+    → fed s opening frame piece .used ≡ length piece
+unfolding fed
+where-more-is-needed-all-was-used s opening frame piece more = more-at (s .stage) s opening frame piece more
 
 module _ (s : State) where
   between-uses : (none : Bool) → s .stage ≡ Calls → eqb (s .got) 0 ≡ none → marked s .used ≡ 0
