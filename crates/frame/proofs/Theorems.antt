@@ -12,7 +12,7 @@ use lib.Seq.{take-append-le, drop-append-le, take-add}
 use Rattle.number.specs.Number.{Bytes, number, numberAt}
 use Rattle.number.proofs.Laws.{number-there, number-not-there, read-below}
 use Rattle.part.proofs.Laws.{part-there}
-use Rattle.frame.specs.declared.Call.{Call}
+use Rattle.frame.specs.declared.CallView.{CallView}
 use Rattle.frame.specs.declared.Front.the-variants.{Whole, Long, Short}
 use Rattle.frame.specs.Frame.{regionLengthSize, callHead, mostParts, openingSize, openingRegion, partIn, partsLength, wholeCall, frontOf}
 use Rattle.frame.specs.Views.{callSize}
@@ -140,13 +140,13 @@ front-before-more-input s t h = go (sized s)
         ∙ rw (whole-call-before-more-input s t head) (sym e)
 
 -- a call that was read is the whole call, its parts are there, and they keep to the limit
-pub record CallIsThere (s : List ℕ) (c : Call) : Type 0 where
+pub record CallIsThere (s : List ℕ) (c : CallView) : Type 0 where
   pub whole : c ≡ wholeCall s
   pub fits : partsLength s ≤ mostParts
   pub size : callSize s ≡ callHead + partsLength s
   pub all : callSize s ≤ length s
 
-pub call-is-there : (s : List ℕ) (c : Call) → frontOf s ≡ Whole c → CallIsThere s c
+pub call-is-there : (s : List ℕ) (c : CallView) → frontOf s ≡ Whole c → CallIsThere s c
 call-is-there s c e = go (sized s)
   where
     go : Sized s → CallIsThere s c

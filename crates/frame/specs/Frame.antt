@@ -8,7 +8,7 @@ use lib.ListN.{length, take, drop}
 use Rattle.number.specs.Number.{numberAt}
 use Rattle.part.specs.Part.{partAt}
 use Rattle.frame.specs.declared.Part.{Part}
-use Rattle.frame.specs.declared.Call.{Call}
+use Rattle.frame.specs.declared.CallView.{CallView}
 use Rattle.frame.specs.declared.Front.{Front}
 use Rattle.frame.specs.declared.Front.the-variants.{Whole, Long, Short}
 
@@ -41,7 +41,7 @@ unfoldable pub partsLength : List ℕ → ℕ
 partsLength s = numberAt 4 s 32 + numberAt 4 s 36 + numberAt 4 s 40
 
 -- slot, lamports before and after, and gross; then the vault key at 44, and the three parts one after the other behind the head
-unfoldable pub wholeCall : List ℕ → Call
+unfoldable pub wholeCall : List ℕ → CallView
 wholeCall s =
     record {
       slot = numberAt 8 s 0;

@@ -32,8 +32,8 @@ pub struct Part {
     pub len: usize,
 }
 
-// A call: its four numbers, and where its vault key, tables and instructions lie.
-pub struct Call {
+// A call as it lies in some bytes: its four numbers, and where its vault key, tables and instructions lie.
+pub struct CallView {
     pub slot: u64,
     pub lamports_before: u64,
     pub lamports_after: u64,
@@ -46,7 +46,7 @@ pub struct Call {
 
 // What some bytes begin with: a whole call, a call whose parts are too long, or too few bytes to tell.
 pub enum Front {
-    Whole(Call),
+    Whole(CallView),
     Long,
     Short,
 }
@@ -82,7 +82,7 @@ pub fn call_size(bytes: &[u8]) -> usize
     CALL_HEAD_SIZE + len
 }
 
-fn whole_call(bytes: &[u8]) -> Call
+fn whole_call(bytes: &[u8]) -> CallView
     ensures { λ r. ⌜ r ≡ wholeCall (now (bytes .entry)) ⌝ }
 {
     let before = number::read_u32(bytes, TABLE_BEFORE_PLACE) as usize;
@@ -92,7 +92,7 @@ fn whole_call(bytes: &[u8]) -> Call
     let lamports_before = number::read_u64(bytes, LAMPORTS_BEFORE_PLACE);
     let lamports_after = number::read_u64(bytes, LAMPORTS_AFTER_PLACE);
     let gross = number::read_u64(bytes, GROSS_PLACE);
-    Call {
+    CallView {
         slot,
         lamports_before,
         lamports_after,

@@ -5,13 +5,13 @@ use mathlib.Core.Path.{_≡_}
 use mathlib.Core.List.{List, _++_}
 use native.Mathlib.Omega.{arith}
 use Rattle.part.proofs.Laws.{part-before-more}
-use Rattle.frame.specs.declared.Call.{Call}
+use Rattle.frame.specs.declared.CallView.{CallView}
 use Rattle.frame.specs.declared.Front.the-variants.{Whole}
 use Rattle.frame.specs.Frame.{partsLength, wholeCall, frontOf}
 use Rattle.frame.proofs.Theorems.{call-is-there}
 use Rattle.framed.specs.Framed.{callIn}
 
-pub call-before-more-input : (s t : List ℕ) (c : Call) → frontOf s ≡ Whole c → callIn (s ++ t) c ≡ callIn s c
+pub call-before-more-input : (s t : List ℕ) (c : CallView) → frontOf s ≡ Whole c → callIn (s ++ t) c ≡ callIn s c
 unfolding partsLength wholeCall
 call-before-more-input s t c front =
     let there = call-is-there s c front in

@@ -1,13 +1,13 @@
 // A call as it lies in the replay's input, judged.
 use answer::Answer;
-use frame::Call;
+use frame::CallView;
 use part::part_at;
 ghost use mathlib.Core.Path.{_≡_};
 ghost use Rattle.judge.specs.Judge.{judged, regionAfter};
 ghost use Rattle.framed.specs.Framed.{callIn};
 
 // Judges the call whose parts lie in some bytes; only an accepted one writes the region.
-pub fn judge_call(region: &mut [u8], bytes: &[u8], call: Call) -> Answer
+pub fn judge_call(region: &mut [u8], bytes: &[u8], call: CallView) -> Answer
     ensures { λ r. ⌜ r ≡ judged (now (region .entry)) (callIn (now (bytes .entry)) call) ⌝ }
     ensures { λ _. ⌜ now (region .exit) ≡ regionAfter (now (region .entry)) (callIn (now (bytes .entry)) call) ⌝ }
 {

@@ -10,8 +10,8 @@ use lib.ListN.{length, take, drop, length-append, take-append-drop}
 use lib.Seq.{take-append-seam, drop-append-seam, drop-at, length-take-le}
 use Rattle.answer.specs.Numbers.{accepts}
 use Rattle.number.specs.Number.{cappedSum, highest}
-use Rattle.judge.specs.Judge.{Call as Judged, judged, regionAfter}
-use Rattle.frame.specs.declared.Call.{Call}
+use Rattle.judge.specs.Judge.{Call, judged, regionAfter}
+use Rattle.frame.specs.declared.CallView.{CallView}
 use Rattle.frame.specs.declared.Front.the-variants.{Whole, Long, Short}
 use Rattle.frame.specs.Frame.{regionLengthSize, callHead, partsLength, wholeCall, frontOf}
 use Rattle.frame.specs.Views.{callSize}
@@ -25,8 +25,8 @@ use Rattle.run.specs.declared.Stage.the-variants.{Calls}
 use Rattle.run.specs.declared.State.{State}
 use Rattle.run.specs.declared.Said.the-variants.{Cut}
 use Rattle.run.specs.declared.Fed.{Fed}
-use Rattle.run.specs.Replay.{oneMore, callsIn, Line, call, cut, end, callLines}
-use Rattle.run.specs.Views.{waits, stopped, called, callAnswer, regionAnswered, memoryFed, fedCall, openingCalled}
+use Rattle.run.specs.Replay.{oneMore, callsIn, Line, callLine, cutLine, endLine, callLines}
+use Rattle.run.specs.Views.{waits, stopped, callSaid, callAnswer, regionAnswered, memoryFed, fedCall, openingCalled}
 use Rattle.run.specs.Feeding.{Held}
 use Rattle.run.proofs.Laws.{call-answered, call-stops, call-waits, region-answered, region-stops, region-waits}
 use Rattle.run.proofs.Cutting.{calls-whole, calls-long}
@@ -36,7 +36,7 @@ use Rattle.run.proofs.Coming.{Judges, linesOf, Coming, judges, over, St
 -- ---- the lines of a call that is all there, and what follows it
 
 module _ (held : List ℕ) (calls accepted : ℕ) (s t : List ℕ) (size : length s ≡ callSize s) where
-  pub lines-long : frontOf s ≡ Long → linesOf held calls accepted (s ++ t) ≡ cut ∷ end accepted ∷ []
+  pub lines-long : frontOf s ≡ Long → linesOf held calls accepted (s ++ t) ≡ cutLine ∷ endLine accepted ∷ []
   unfolding callLines
   lines-long front = rw (calls-long (s ++ t) (front-before-more-input s t (rw size (le-refl _)) ∙ front))
 
@@ -44,7 +44,7 @@ module _ (held : List ℕ) (calls accepted : ℕ) (s t : List ℕ) (size : lengt
   unfolding afterRun
   left-long front = rw (calls-long (s ++ t) (front-before-more-input s t (rw size (le-refl _)) ∙ front))
 
-  module _ (c : Call) (front : frontOf s ≡ Whole c) where
+  module _ (c : CallView) (front : frontOf s ≡ Whole c) where
     calls-are : callsIn (s ++ t) ≡ oneMore (callIn s c) (callsIn t)
     calls-are =
         let front′ : frontOf (s ++ t) ≡ Whole c = front-before-more-input s t (rw size (le-refl _)) ∙ front in
@@ -54,7 +54,7 @@ module _ (held : List ℕ) (calls accepted : ℕ) (s t : List ℕ) (size : lengt
         calls-whole (s ++ t) c front′ ∙ rw (call-before-more-input s t c front, behind)
 
     pub lines-call : linesOf held calls accepted (s ++ t)
-        ≡ call (calls + 1) (judged held (callIn s c) .number)
+        ≡ callLine (calls + 1) (judged held (callIn s c) .number)
         ∷ linesOf (regionAfter held (callIn s c)) (calls + 1) (accepted + cond (accepts (judged held (callIn s c))) 1 0) t
     unfolding callLines
     lines-call = rw calls-are
@@ -138,7 +138,7 @@ module _ (h : Held) (piece rest now region : List ℕ) (at : Judges h (piece ++ 
   too-long size front =
       record {
         goes-on = refl;
-        next = end (state .accepted) ∷ [];
+        next = endLine (state .accepted) ∷ [];
         said-is = rw (← joined) (lines-long region (state .calls) (state .accepted) there-now more size front);
         coming =
             over refl refl
@@ -147,8 +147,8 @@ module _ (h : Held) (piece rest now region : List ℕ) (at : Judges h (piece ++ 
             ∙ sym (region-put (h .opening) (state .region) region _ (at .length-there) (at .region-long))));
       }
 
-  module _ (size : length there-now ≡ callSize there-now) (c : Call) (front : frontOf there-now ≡ Whole c) where
-    abbrev the-call : Judged
+  module _ (size : length there-now ≡ callSize there-now) (c : CallView) (front : frontOf there-now ≡ Whole c) where
+    abbrev the-call : Call
     the-call = callIn there-now c
 
     -- a whole call has the bytes of a head, so the calls before it are fewer than 2^64 - 1
@@ -164,8 +164,8 @@ module _ (h : Held) (piece rest now region : List ℕ) (at : Judges h (piece ++ 
     at-most-one true = omega arith
     at-most-one false = omega arith
 
-    was-judged : StepTo (called state n (judged region the-call)) (regionAfter region the-call)
-    unfolding called
+    was-judged : StepTo (callSaid state n (judged region the-call)) (regionAfter region the-call)
+    unfolding callSaid
     was-judged =
         let one = accepted-counted (cond (accepts (judged region the-call)) 1 0) (at-most-one (accepts (judged region the-call))) in
         let long′ : length (regionAfter region the-call) ≡ state .region = as-long region the-call (at .stands) ∙ at .region-long in

@@ -12,7 +12,7 @@ use Rattle.bursar.specs.Run.{afterRun}
 use Rattle.bursar.proofs.OneCall.{Stands}
 use Rattle.run.specs.declared.Stage.the-variants.{Opening, Calls, Over}
 use Rattle.run.specs.declared.Fed.{Fed}
-use Rattle.run.specs.Replay.{callsIn, Line, end, callLines, replayOf}
+use Rattle.run.specs.Replay.{callsIn, Line, endLine, callLines, replayOf}
 use Rattle.run.specs.Feeding.{lineOf, isEnd, Held, regionHeld, regionLeft}
 
 -- the opening is coming, with some of its bytes there; the input has fewer bytes than 2^64 calls have heads
@@ -48,7 +48,7 @@ pub data Coming (h : Held) (left : List ℕ) (lines : List Line) (region : List 
   opens : (there : List ℕ) → Opens h left there → lines ≡ replayOf (there ++ left) → region ≡ regionLeft (there ++ left) → Coming h left lines region
   judges : (there held : List ℕ) → Judges h left there held → lines ≡ linesOf held (h .state .calls) (h .state .accepted) (there ++ left)
       → region ≡ afterRun held (callsIn (there ++ left) .list) → Coming h left lines region
-  over : h .state .stage ≡ Over → lines ≡ end (h .state .accepted) ∷ [] → region ≡ regionHeld h → Coming h left lines region
+  over : h .state .stage ≡ Over → lines ≡ endLine (h .state .accepted) ∷ [] → region ≡ regionHeld h → Coming h left lines region
 
 -- a piece, or the end mark, that is not the last: a line of those to come, and the rest still to come
 pub record Step (left : List ℕ) (lines : List Line) (region : List ℕ) (r : Fed) (opening frame : List ℕ) : Type 0 where

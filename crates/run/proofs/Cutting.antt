@@ -8,13 +8,13 @@ use native.Mathlib.Omega.{arith}
 use native.Mathlib.Nat.{le-refl}
 use borrow.Author.Tests.{lt-ltb}
 use lib.ListN.{length, drop, length-drop}
-use Rattle.frame.specs.declared.Call.{Call}
+use Rattle.frame.specs.declared.CallView.{CallView}
 use Rattle.frame.specs.declared.Front.{Front}
 use Rattle.frame.specs.declared.Front.the-variants.{Whole, Long, Short}
 use Rattle.frame.specs.Frame.{callHead, partsLength, frontOf}
 use Rattle.frame.proofs.Theorems.{call-is-there}
 use Rattle.framed.specs.Framed.{callIn}
-use Rattle.run.specs.Replay.{Calls, oneMore, callsUpTo, callsIn}
+use Rattle.run.specs.Replay.{ReadCalls, oneMore, callsUpTo, callsIn}
 
 none-left : (most : ℕ) → callsUpTo most [] ≡ record { list = []; isCut = false }
 unfolding callsUpTo frontOf
@@ -22,11 +22,11 @@ none-left zero = refl
 none-left (suc most) = refl
 
 module _ (most : ℕ) (s : List ℕ) where
-  pub up-to-whole : (c : Call) → frontOf s ≡ Whole c → callsUpTo (suc most) s ≡ oneMore (callIn s c) (callsUpTo most (drop (callHead + partsLength s) s))
+  pub up-to-whole : (c : CallView) → frontOf s ≡ Whole c → callsUpTo (suc most) s ≡ oneMore (callIn s c) (callsUpTo most (drop (callHead + partsLength s) s))
   unfolding callsUpTo
   up-to-whole c front = rw (front, callsUpTo)
 
-  pub up-to-no-call : (f : Front) → frontOf s ≡ f → ((c : Call) → f ≡ Whole c → ⊥) → callsUpTo (suc most) s .list ≡ []
+  pub up-to-no-call : (f : Front) → frontOf s ≡ f → ((c : CallView) → f ≡ Whole c → ⊥) → callsUpTo (suc most) s .list ≡ []
   unfolding callsUpTo
   up-to-no-call (Whole c) front no′ = absurd (no′ c refl)
   up-to-no-call Long front no′ = rw (front, callsUpTo)
@@ -41,7 +41,7 @@ module _ (most : ℕ) (s : List ℕ) where
   up-to-short some front = rw (front, callsUpTo) (rw (lt-ltb _ _ some))
 
 -- a whole call takes bytes
-fewer : (s : List ℕ) (c : Call) (most : ℕ) → frontOf s ≡ Whole c → length s ≤ suc most → length (drop (callHead + partsLength s) s) ≤ most
+fewer : (s : List ℕ) (c : CallView) (most : ℕ) → frontOf s ≡ Whole c → length s ≤ suc most → length (drop (callHead + partsLength s) s) ≤ most
 fewer s c most front h =
     let there = call-is-there s c front in
     let all = there .all in
@@ -84,7 +84,7 @@ module _ (s : List ℕ) where
   unfolding callsIn
   one-more-does = as-many-as-bytes (length s) (suc (length s)) s (le-refl _) (omega arith)
 
-  pub calls-whole : (c : Call) → frontOf s ≡ Whole c → callsIn s ≡ oneMore (callIn s c) (callsIn (drop (callHead + partsLength s) s))
+  pub calls-whole : (c : CallView) → frontOf s ≡ Whole c → callsIn s ≡ oneMore (callIn s c) (callsIn (drop (callHead + partsLength s) s))
   unfolding callsIn
   calls-whole c front =
       let rest = drop (callHead + partsLength s) s in

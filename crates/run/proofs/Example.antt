@@ -23,16 +23,16 @@ use Rattle.freeze.specs.Freeze.{allFrozen}
 use Rattle.judge.specs.Judge.{recordsBefore, recordsAfter, amountFor, charged, soundness, rules, steps, judged, regionAfter}
 use Rattle.judge.specs.NamedValues.{one, left}
 use Rattle.frame.specs.Frame.{openingRegion, partsLength, wholeCall, frontOf}
-use Rattle.run.specs.Replay.{region, call, cut, end, callsUpTo, callsIn, callLines, linesFrom, replayOf}
-use Rattle.run.specs.Example.{spendingBytes, morning, refusedMorning, longMorning}
+use Rattle.run.specs.Replay.{regionLine, callLine, cutLine, endLine, callsUpTo, callsIn, callLines, linesFrom, replayOf}
+use Rattle.run.specs.Example.{spendingBytes, b1Input, refusedInput, longInput}
 
-pub as-the-document-shows : (replayOf morning ≡ region 0 ∷ call 1 0 ∷ call 2 7 ∷ call 3 0 ∷ end 2 ∷ [])
-    × (replayOf (take 263 morning) ≡ region 0 ∷ call 1 0 ∷ call 2 7 ∷ cut ∷ end 1 ∷ [])
-    × (replayOf (take 21 morning) ≡ region 0 ∷ end 0 ∷ [])
-    × (replayOf (take 20 morning) ≡ cut ∷ end 0 ∷ [])
-    × (replayOf (take 1 morning) ≡ cut ∷ end 0 ∷ [])
-    × (replayOf [] ≡ cut ∷ end 0 ∷ [])
-    × (replayOf refusedMorning ≡ region 1 ∷ end 0 ∷ [])
-    × (replayOf longMorning ≡ region 0 ∷ cut ∷ end 0 ∷ [])
-unfolding refusedMorning longMorning replayOf linesFrom callLines callsIn callsUpTo morning spendingBytes one left openingRegion partsLength wholeCall frontOf partAt judged regionAfter steps soundness rules charged amountFor recordsBefore recordsAfter programsAnswer allFrozen classAnswer ofClass isSol ruleAnswer breaks above base windowOver refusalOf settled changeOf liveChange isLimit spentChange changed withAmounts storedActions inStoredForm creation formOf allKeep keeps bothLists solRepeats howOften mintRepeats mintAgain isToken isRecurring keyOf amountsOf isListed expired cutActions first headerDataLength dataLength sizeAmong glue glueOne number bytesOf numberAt cappedSum flooredDifference withNumberAt highest firstRefusal sameKey sameBytes cutTable cutRecords firstRecord balance mostInstructions byte front decodeOne decodeEach decode
+pub as-the-document-shows : (replayOf b1Input ≡ regionLine 0 ∷ callLine 1 0 ∷ callLine 2 7 ∷ callLine 3 0 ∷ endLine 2 ∷ [])
+    × (replayOf (take 263 b1Input) ≡ regionLine 0 ∷ callLine 1 0 ∷ callLine 2 7 ∷ cutLine ∷ endLine 1 ∷ [])
+    × (replayOf (take 21 b1Input) ≡ regionLine 0 ∷ endLine 0 ∷ [])
+    × (replayOf (take 20 b1Input) ≡ cutLine ∷ endLine 0 ∷ [])
+    × (replayOf (take 1 b1Input) ≡ cutLine ∷ endLine 0 ∷ [])
+    × (replayOf [] ≡ cutLine ∷ endLine 0 ∷ [])
+    × (replayOf refusedInput ≡ regionLine 1 ∷ endLine 0 ∷ [])
+    × (replayOf longInput ≡ regionLine 0 ∷ cutLine ∷ endLine 0 ∷ [])
+unfolding refusedInput longInput replayOf linesFrom callLines callsIn callsUpTo b1Input spendingBytes one left openingRegion partsLength wholeCall frontOf partAt judged regionAfter steps soundness rules charged amountFor recordsBefore recordsAfter programsAnswer allFrozen classAnswer ofClass isSol ruleAnswer breaks above base windowOver refusalOf settled changeOf liveChange isLimit spentChange changed withAmounts storedActions inStoredForm creation formOf allKeep keeps bothLists solRepeats howOften mintRepeats mintAgain isToken isRecurring keyOf amountsOf isListed expired cutActions first headerDataLength dataLength sizeAmong glue glueOne number bytesOf numberAt cappedSum flooredDifference withNumberAt highest firstRefusal sameKey sameBytes cutTable cutRecords firstRecord balance mostInstructions byte front decodeOne decodeEach decode
 as-the-document-shows = (refl, refl, refl, refl, refl, refl, refl, refl)

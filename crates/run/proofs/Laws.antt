@@ -11,7 +11,7 @@ use Rattle.answer.specs.Numbers.{accepts}
 use Rattle.number.specs.Number.{numberAt}
 use Rattle.creation.specs.Creation.{creation}
 use Rattle.judge.specs.Judge.{judged, regionAfter}
-use Rattle.frame.specs.declared.Call.{Call}
+use Rattle.frame.specs.declared.CallView.{CallView}
 use Rattle.frame.specs.declared.Front.the-variants.{Whole, Long, Short}
 use Rattle.frame.specs.Frame.{openingSize, openingRegion, frontOf}
 use Rattle.framed.specs.Framed.{callIn}
@@ -20,7 +20,7 @@ use Rattle.run.specs.declared.Stage.the-variants.{Opening, Calls, Over}
 use Rattle.run.specs.declared.State.{State}
 use Rattle.run.specs.declared.Fed.{Fed}
 use Rattle.run.specs.declared.Said.the-variants.{Region, Cut, End}
-use Rattle.run.specs.Views.{waits, stopped, opened, opens, called, marked, openingAnswer, callAnswer, regionAnswered, memoryFed, fedOpening, fedCall, openingCalled, fedAt, fed, openingFedAt, openingFed, frameFedAt, frameFed}
+use Rattle.run.specs.Views.{waits, stopped, opened, opens, callSaid, marked, openingAnswer, callAnswer, regionAnswered, memoryFed, fedOpening, fedCall, openingCalled, fedAt, fed, openingFedAt, openingFed, frameFedAt, frameFed}
 
 -- what feeding a piece comes to: the result and both memories afterwards
 pub record FedAs (s : State) (opening frame piece : List ℕ) (r : Fed) (opening′ frame′ : List ℕ) : Type 0 where
@@ -64,7 +64,7 @@ module _ (s : State) where
     opening-answered all = rw (le-leb _ _ all)
 
     module _ (region : List ℕ) where
-      pub call-answered : (c : Call) → frontOf there ≡ Whole c → callAnswer s used region there ≡ called s used (judged region (callIn there c))
+      pub call-answered : (c : CallView) → frontOf there ≡ Whole c → callAnswer s used region there ≡ callSaid s used (judged region (callIn there c))
       unfolding callAnswer
       call-answered c front = rw (front, callAnswer)
 
@@ -77,7 +77,7 @@ module _ (s : State) where
       call-waits front = rw (front, callAnswer)
 
 module _ (region there : List ℕ) where
-  pub region-answered : (c : Call) → frontOf there ≡ Whole c → regionAnswered region there ≡ regionAfter region (callIn there c)
+  pub region-answered : (c : CallView) → frontOf there ≡ Whole c → regionAnswered region there ≡ regionAfter region (callIn there c)
   unfolding regionAnswered
   region-answered c front = rw (front, regionAnswered)
 

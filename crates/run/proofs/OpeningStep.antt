@@ -22,7 +22,7 @@ use Rattle.bursar.proofs.Theorems.{created-stands}
 use Rattle.run.specs.declared.Stage.the-variants.{Opening}
 use Rattle.run.specs.declared.State.{State}
 use Rattle.run.specs.declared.Fed.{Fed}
-use Rattle.run.specs.Replay.{Calls, callsIn, Line, region, cut, end, callLines, linesFrom, replayOf}
+use Rattle.run.specs.Replay.{ReadCalls, callsIn, Line, regionLine, cutLine, endLine, callLines, linesFrom, replayOf}
 use Rattle.run.specs.Views.{waits, openingAnswer, fedOpening, memoryFed}
 use Rattle.run.specs.Feeding.{Held, regionLeft}
 use Rattle.run.proofs.Laws.{opening-waits, opening-answered, opened-accepted, opened-refused}
@@ -32,7 +32,7 @@ use Rattle.run.proofs.Coming.{Opens, Judges, linesOf, Coming, opens, ju
 -- ---- the lines of an input by its opening
 
 module _ (s : List ℕ) where
-  pub replay-cut : length s < openingSize s → replayOf s ≡ cut ∷ end 0 ∷ []
+  pub replay-cut : length s < openingSize s → replayOf s ≡ cutLine ∷ endLine 0 ∷ []
   unfolding replayOf
   replay-cut h = rw (lt-leb _ _ h)
 
@@ -63,11 +63,11 @@ module _ (s t : List ℕ) (size : length s ≡ openingSize s) where
 
   module _ (held : List ℕ) (is : held ≡ openingRegion s) where
     pub replay-accepted : accepts (creation held) ≡ true
-        → replayOf (s ++ t) ≡ region (creation held .number) ∷ linesOf held 0 0 t
+        → replayOf (s ++ t) ≡ regionLine (creation held .number) ∷ linesOf held 0 0 t
     unfolding linesFrom
     replay-accepted yes′ = rw replay-there (rw (← is, yes′))
 
-    pub replay-refused : accepts (creation held) ≡ false → replayOf (s ++ t) ≡ region (creation held .number) ∷ end 0 ∷ []
+    pub replay-refused : accepts (creation held) ≡ false → replayOf (s ++ t) ≡ regionLine (creation held .number) ∷ endLine 0 ∷ []
     unfolding linesFrom
     replay-refused no′ = rw replay-there (rw (← is, no′))
 
@@ -184,7 +184,7 @@ module _ (h : Held) (piece rest now : List ℕ) (at : Opens h (piece ++ rest) no
         subst StepTo (sym is)
         (record {
           goes-on = refl;
-          next = end 0 ∷ [];
+          next = endLine 0 ∷ [];
           said-is = rw (← joined) (replay-refused there-now more size held refl no′);
           coming = over refl (rw (at .none-accepted)) (rw (← joined, at .no-region) (left-refused there-now more size held refl no′));
         })

@@ -16,7 +16,7 @@ use Rattle.number.proofs.Laws.{bytes-take, bytes-drop, read-below}
 use Rattle.action.specs.Fields.{remaining, limit}
 use Rattle.creation.specs.Creation.{creation, howOften}
 use Rattle.judge.specs.Judge.{Call, judged, regionAfter}
-use Rattle.frame.specs.declared.Call.{Call as Framed}
+use Rattle.frame.specs.declared.CallView.{CallView}
 use Rattle.frame.specs.declared.Front.{Front}
 use Rattle.frame.specs.declared.Front.the-variants.{Whole, Long, Short}
 use Rattle.frame.specs.Frame.{regionLengthSize, callHead, openingSize, openingRegion, partsLength, wholeCall, frontOf}
@@ -25,30 +25,30 @@ use Rattle.framed.specs.Framed.{callIn}
 use Rattle.bursar.specs.Run.{Created, Slotted, afterRun, numbersOf, Fund, taken}
 use Rattle.bursar.specs.Limits.{limitOf, recurringOf, takenAt}
 use Rattle.bursar.proofs.Theorems.{what-is-left-and-what-was-taken-are-the-opening, a-window-takes-at-most-its-limit}
-use Rattle.run.specs.Replay.{Calls, callsUpTo, callsIn, Line, region, call, cut, end, callLines, linesFrom, replayOf}
+use Rattle.run.specs.Replay.{ReadCalls, callsUpTo, callsIn, Line, regionLine, callLine, cutLine, endLine, callLines, linesFrom, replayOf}
 use Rattle.run.specs.Feeding.{regionLeft}
 use Rattle.run.proofs.Cutting.{up-to-whole, up-to-no-call}
 use Rattle.run.specs.Printed.{runOf, Opened, numbered, printed}
 
 -- the lines of some calls by the numbers that a run of them is answered with
 lines-are-numbered : (l : List Call) (held : List ℕ) (calls accepted′ : ℕ) (isCut : Bool) → callLines held calls accepted′ isCut l
-    ≡ numbered calls (numbersOf held l) ++ (cond isCut (cut ∷ []) [] ++ (end (accepted′ + howOften accepted (numbersOf held l)) ∷ []))
+    ≡ numbered calls (numbersOf held l) ++ (cond isCut (cutLine ∷ []) [] ++ (endLine (accepted′ + howOften accepted (numbersOf held l)) ∷ []))
 unfolding callLines numbered numbersOf howOften
-lines-are-numbered [] held calls accepted′ true = ap (λ (n : ℕ). cut ∷ end n ∷ []) (omega arith)
-lines-are-numbered [] held calls accepted′ false = ap (λ (n : ℕ). end n ∷ []) (omega arith)
+lines-are-numbered [] held calls accepted′ true = ap (λ (n : ℕ). cutLine ∷ endLine n ∷ []) (omega arith)
+lines-are-numbered [] held calls accepted′ false = ap (λ (n : ℕ). endLine n ∷ []) (omega arith)
 lines-are-numbered (c ∷ l) held calls accepted′ isCut =
     let one : ℕ = cond (accepts (judged held c)) 1 0 in
     let rest = howOften accepted (numbersOf (regionAfter held c) l) in
     let sum : accepted′ + one + rest ≡ accepted′ + (one + rest) = omega arith in
-    ap (λ (k : List Line). call (calls + 1) (judged held c .number) ∷ k)
+    ap (λ (k : List Line). callLine (calls + 1) (judged held c .number) ∷ k)
     (lines-are-numbered l (regionAfter held c) (calls + 1) (accepted′ + one) isCut
-    ∙ ap (λ (n : ℕ). numbered (calls + 1) (numbersOf (regionAfter held c) l) ++ (cond isCut (cut ∷ []) [] ++ (end n ∷ []))) sum)
+    ∙ ap (λ (n : ℕ). numbered (calls + 1) (numbersOf (regionAfter held c) l) ++ (cond isCut (cutLine ∷ []) [] ++ (endLine n ∷ []))) sum)
 
 -- the slot of a call that was read is a number of 64 bits
-slot-fits : (s : List ℕ) (c : Framed) → Bytes s → frontOf s ≡ Whole c → callIn s c .slot ≤ highest
+slot-fits : (s : List ℕ) (c : CallView) → Bytes s → frontOf s ≡ Whole c → callIn s c .slot ≤ highest
 unfolding wholeCall highest
 slot-fits s c bytes front =
-    let is : c .slot ≡ numberAt 8 s 0 = ap (λ (k : Framed). k .slot) (call-is-there s c front .whole) in
+    let is : c .slot ≡ numberAt 8 s 0 = ap (λ (k : CallView). k .slot) (call-is-there s c front .whole) in
     omega (arith, read-below 8 s 0 bytes)
 
 slots-fit : (most : ℕ) (s : List ℕ) → Bytes s → Slotted (callsUpTo most s .list)
@@ -57,7 +57,7 @@ slots-fit zero s bytes = tt
 slots-fit (suc most) s bytes = go (slots-fit most (drop (callHead + partsLength s) s) (bytes-drop (callHead + partsLength s) s bytes)) (frontOf s) refl
   where
     go : Slotted (callsUpTo most (drop (callHead + partsLength s) s) .list) → (f : Front) → frontOf s ≡ f → Slotted (callsUpTo (suc most) s .list)
-    go rest (Whole c) front = subst (λ (k : Calls). Slotted (k .list)) (sym (up-to-whole most s c front)) (slot-fits s c bytes front, rest)
+    go rest (Whole c) front = subst (λ (k : ReadCalls). Slotted (k .list)) (sym (up-to-whole most s c front)) (slot-fits s c bytes front, rest)
     go rest Long front = subst Slotted (sym (up-to-no-call most s Long front (λ c e. let z : _≡_ {A = ℕ} 0 1 = cc in omega arith))) tt
     go rest Short front = subst Slotted (sym (up-to-no-call most s Short front (λ c e. let z : _≡_ {A = ℕ} 0 1 = cc in omega arith))) tt
 
@@ -78,7 +78,7 @@ module _ (input : List ℕ) (opened : Opened input) where
   a-replay-prints-the-numbers-of-a-run =
       let number-is : creation (openingRegion input) .number ≡ accepted = eqb-true _ _ (opened .accepts-it) in
       rw (le-leb _ _ (opened .all-there), opened .accepts-it, number-is)
-      (ap (λ (k : List Line). region accepted ∷ k) (lines-are-numbered (runOf input .list) (openingRegion input) 0 0 (runOf input .isCut) ∙ rw zero-add))
+      (ap (λ (k : List Line). regionLine accepted ∷ k) (lines-are-numbered (runOf input .list) (openingRegion input) 0 0 (runOf input .isCut) ∙ rw zero-add))
 
   -- and the region that is left is the one after that run
   pub a-replay-leaves-the-region-after-the-run : regionLeft input ≡ afterRun (openingRegion input) (runOf input .list)

@@ -16,7 +16,7 @@ use Rattle.frame.proofs.Theorems.{Sized, short, long, past, there, sized, openi
 use Rattle.bursar.specs.Run.{afterRun}
 use Rattle.run.specs.declared.Said.the-variants.{Cut, End}
 use Rattle.run.specs.declared.Fed.{Fed}
-use Rattle.run.specs.Replay.{callsIn, Line, cut, end, callLines, replayOf}
+use Rattle.run.specs.Replay.{callsIn, Line, cutLine, endLine, callLines, replayOf}
 use Rattle.run.specs.Views.{stopped, marked, fed, openingFed, frameFed}
 use Rattle.run.specs.Feeding.{lineOf, isEnd, Held, heldAtFirst, heldAfter, heldMarked, regionHeld, regionLeft, Says, feeds, feeds-last, marks, marks-last}
 use Rattle.run.proofs.Laws.{marked-opening, marked-between, marked-inside, marked-over, at-opening, at-calls, at-over}
@@ -59,7 +59,7 @@ empty [] e = refl
 empty (b ∷ s) e = absurd (omega arith)
 
 module _ (held : List ℕ) (calls accepted : ℕ) where
-  lines-none : linesOf held calls accepted [] ≡ end accepted ∷ []
+  lines-none : linesOf held calls accepted [] ≡ endLine accepted ∷ []
   unfolding callLines
   lines-none = rw calls-none
 
@@ -68,7 +68,7 @@ module _ (held : List ℕ) (calls accepted : ℕ) where
   left-none = rw calls-none
 
   module _ (s : List ℕ) (some : 0 < length s) (less : length s < callSize s) where
-    lines-inside : linesOf held calls accepted s ≡ cut ∷ end accepted ∷ []
+    lines-inside : linesOf held calls accepted s ≡ cutLine ∷ endLine accepted ∷ []
     unfolding callLines
     lines-inside = rw (calls-short s some (not-whole s less))
 
@@ -82,7 +82,7 @@ mark-turn h {lines} {region} (opens now at e f) =
     (goes
     (record {
       goes-on = refl;
-      next = end (h .state .accepted) ∷ [];
+      next = endLine (h .state .accepted) ∷ [];
       said-is = e ∙ rw (append-nil now, at .none-accepted) (replay-cut now (at .short));
       coming = over refl refl (f ∙ rw (append-nil now, at .no-region) (nothing-left now (at .short)));
     }))
@@ -100,7 +100,7 @@ mark-turn h {lines} {region} (judges now held at e f) =
     (goes
     (record {
       goes-on = refl;
-      next = end accepted ∷ [];
+      next = endLine accepted ∷ [];
       said-is = e ∙ rw (append-nil now) (lines-inside held calls accepted now some′ (at .short));
       coming = over refl refl (f ∙ rw (append-nil now, at .region-is) (left-inside held calls accepted now some′ (at .short)));
     })))

@@ -22,7 +22,7 @@ use Rattle.run.specs.declared.Stage.the-variants.{Opening, Calls, Over}
 use Rattle.run.specs.declared.State.{State}
 use Rattle.run.specs.declared.Said.the-variants.{More, Region}
 use Rattle.run.specs.declared.Fed.{Fed}
-use Rattle.run.specs.Views.{opened, called, marked, takenOf, openingAnswer, callAnswer, fedOpening, fedCall, fedAt, fed}
+use Rattle.run.specs.Views.{opened, callSaid, marked, takenOf, openingAnswer, callAnswer, fedOpening, fedCall, fedAt, fed}
 use Rattle.run.proofs.Laws.{marked-opening, marked-over, opened-accepted, opened-refused, opening-answered, call-answered, call-stops, call-waits}
 use Rattle.run.proofs.Pieces.{all-taken, there-then}
 
@@ -39,7 +39,7 @@ module _ (s : State) (used : ℕ) where
     opening-uses false is = rw is
 
     call-uses : (region : List ℕ) (front : Front) → frontOf there ≡ front → callAnswer s used region there .used ≡ used
-    unfolding called
+    unfolding callSaid
     call-uses region (Whole c) is = rw (call-answered s used there region c is)
     call-uses region Long is = rw (call-stops s used there region is)
     call-uses region Short is = rw (call-waits s used there region is)
@@ -73,7 +73,7 @@ module _ (s : State) (used : ℕ) where
             omega arith
 
     call-more : (region : List ℕ) → callAnswer s used region there .said ≡ More → length there < callSize there
-    unfolding called
+    unfolding callSaid
     call-more region more = go (sized there)
       where
         go : Sized there → length there < callSize there

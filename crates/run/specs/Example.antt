@@ -16,16 +16,16 @@ spendingBytes decrease =
     ++ (bytesOf 4 2 ++ (bytesOf 4 2 ++ (bytesOf 4 1 ++ (replicate 32 0 ++ (0 ∷ 0 ∷ 0 ∷ 0 ∷ 0 ∷ []))))))))
 
 -- a SolLimit of 100, and calls that take 40, 61 and 60
-unfoldable pub morning : List ℕ
+unfoldable pub b1Input : List ℕ
 unfolding left spendingBytes
-morning = bytesOf 2 (length (left 100)) ++ (left 100 ++ (spendingBytes 40 ++ (spendingBytes 61 ++ spendingBytes 60)))
+b1Input = bytesOf 2 (length (left 100)) ++ (left 100 ++ (spendingBytes 40 ++ (spendingBytes 61 ++ spendingBytes 60)))
 
 -- A3's region, which creation refuses, and a call
-unfoldable pub refusedMorning : List ℕ
+unfoldable pub refusedInput : List ℕ
 unfolding left spendingBytes
-refusedMorning = bytesOf 2 10 ++ (take 10 (left 100) ++ spendingBytes 40)
+refusedInput = bytesOf 2 10 ++ (take 10 (left 100) ++ spendingBytes 40)
 
 -- the empty region, a call whose instructions would be 60,001 bytes, and one that is sound
-unfoldable pub longMorning : List ℕ
+unfoldable pub longInput : List ℕ
 unfolding spendingBytes
-longMorning = bytesOf 2 0 ++ (replicate 40 0 ++ (bytesOf 4 60001 ++ (replicate 32 0 ++ spendingBytes 40)))
+longInput = bytesOf 2 0 ++ (replicate 40 0 ++ (bytesOf 4 60001 ++ (replicate 32 0 ++ spendingBytes 40)))

@@ -13,16 +13,16 @@ use Rattle.bursar.specs.Run.{afterRun}
 use Rattle.run.specs.declared.State.{State}
 use Rattle.run.specs.declared.Said.{Said}
 use Rattle.run.specs.declared.Said.the-variants.{More, Region, Call, Cut, End}
-use Rattle.run.specs.Replay.{callsIn, Line, region, call, cut, end}
+use Rattle.run.specs.Replay.{callsIn, Line, regionLine, callLine, cutLine, endLine}
 use Rattle.run.specs.Views.{begun, marked, regionIn, fed, openingFed, frameFed}
 
 -- the line for what was said
 abbrev pub lineOf : Said → List Line
 lineOf More = []
-lineOf (Region a) = region (a .number) ∷ []
-lineOf (Call k a) = call k (a .number) ∷ []
-lineOf Cut = cut ∷ []
-lineOf (End n) = end n ∷ []
+lineOf (Region a) = regionLine (a .number) ∷ []
+lineOf (Call k a) = callLine k (a .number) ∷ []
+lineOf Cut = cutLine ∷ []
+lineOf (End n) = endLine n ∷ []
 
 -- whether that was the end
 abbrev pub isEnd : Said → Bool

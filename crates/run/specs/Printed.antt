@@ -10,10 +10,10 @@ use Rattle.number.specs.Number.{Bytes}
 use Rattle.creation.specs.Creation.{creation, howOften}
 use Rattle.judge.specs.Judge.{Call}
 use Rattle.frame.specs.Frame.{openingSize, openingRegion}
-use Rattle.run.specs.Replay.{Calls, callsIn, Line, region, call, cut, end}
+use Rattle.run.specs.Replay.{ReadCalls, callsIn, Line, regionLine, callLine, cutLine, endLine}
 
 -- what follows the opening, cut into calls
-abbrev pub runOf : List ℕ → Calls
+abbrev pub runOf : List ℕ → ReadCalls
 runOf input = callsIn (drop (openingSize input) input)
 
 -- bytes whose opening is all there and whose region creation accepted
@@ -25,9 +25,9 @@ pub record Opened (input : List ℕ) : Type 0 where
 -- the lines of calls that were answered with some numbers, where so many came before
 unfoldable pub numbered : ℕ → List ℕ → List Line
 numbered before [] = []
-numbered before (n ∷ numbers) = call (before + 1) n ∷ numbered (before + 1) numbers
+numbered before (n ∷ numbers) = callLine (before + 1) n ∷ numbered (before + 1) numbers
 
 -- the lines of a run that was answered with some numbers, cut or not
-unfoldable pub printed : Calls → List ℕ → List Line
+unfoldable pub printed : ReadCalls → List ℕ → List Line
 unfolding numbered
-printed calls numbers = region accepted ∷ (numbered 0 numbers ++ (cond (calls .isCut) (cut ∷ []) [] ++ (end (howOften accepted numbers) ∷ [])))
+printed calls numbers = regionLine accepted ∷ (numbered 0 numbers ++ (cond (calls .isCut) (cutLine ∷ []) [] ++ (endLine (howOften accepted numbers) ∷ [])))

@@ -13,15 +13,15 @@ use Rattle.frame.specs.Frame.{callHead, openingSize, openingRegion, partsLength
 use Rattle.framed.specs.Framed.{callIn}
 
 -- the calls in some bytes, and whether the bytes are cut behind them
-pub record Calls : Type 0 where
+pub record ReadCalls : Type 0 where
   pub list : List Call
   pub isCut : Bool
 
-abbrev pub oneMore : Call → Calls → Calls
+abbrev pub oneMore : Call → ReadCalls → ReadCalls
 oneMore call rest = record { list = call ∷ rest .list; isCut = rest .isCut }
 
 -- at most so many calls, until the bytes end, stop inside a call, or hold one whose parts are too long
-unfoldable pub callsUpTo : ℕ → List ℕ → Calls
+unfoldable pub callsUpTo : ℕ → List ℕ → ReadCalls
 callsUpTo zero s = record { list = []; isCut = false }
 callsUpTo (suc most) s =
     elim (frontOf s) [
@@ -31,30 +31,30 @@ callsUpTo (suc most) s =
     ]
 
 -- all of them: no more calls than bytes
-unfoldable pub callsIn : List ℕ → Calls
+unfoldable pub callsIn : List ℕ → ReadCalls
 unfolding callsUpTo
 callsIn s = callsUpTo (length s) s
 
 -- a line: the region's number; which call, and its number; cut; how many calls were accepted
 pub data Line : Type 0 where
-  region : ℕ → Line
-  call : ℕ → ℕ → Line
-  cut : Line
-  end : ℕ → Line
+  regionLine : ℕ → Line
+  callLine : ℕ → ℕ → Line
+  cutLine : Line
+  endLine : ℕ → Line
 
 -- the lines of some calls on a region, where so many calls came before and so many of them were accepted: each is judged on what the one before it left
 unfoldable pub callLines : List ℕ → ℕ → ℕ → Bool → List Call → List Line
-callLines held calls accepted isCut [] = cond isCut (cut ∷ end accepted ∷ []) (end accepted ∷ [])
+callLines held calls accepted isCut [] = cond isCut (cutLine ∷ endLine accepted ∷ []) (endLine accepted ∷ [])
 callLines held calls accepted isCut (c ∷ l) =
-    call (calls + 1) (judged held c .number) ∷ callLines (regionAfter held c) (calls + 1) (accepted + cond (accepts (judged held c)) 1 0) isCut l
+    callLine (calls + 1) (judged held c .number) ∷ callLines (regionAfter held c) (calls + 1) (accepted + cond (accepts (judged held c)) 1 0) isCut l
 
 -- the lines behind the opening: a refused region runs no calls
-unfoldable pub linesFrom : List ℕ → Calls → List Line
+unfoldable pub linesFrom : List ℕ → ReadCalls → List Line
 unfolding callLines
 linesFrom held calls =
-    region (creation held .number) ∷ cond (accepts (creation held)) (callLines held 0 0 (calls .isCut) (calls .list)) (end 0 ∷ [])
+    regionLine (creation held .number) ∷ cond (accepts (creation held)) (callLines held 0 0 (calls .isCut) (calls .list)) (endLine 0 ∷ [])
 
 -- the lines of an input: cut where it stops inside the opening
 unfoldable pub replayOf : List ℕ → List Line
 unfolding linesFrom callsIn
-replayOf s = cond (leb (openingSize s) (length s)) (linesFrom (openingRegion s) (callsIn (drop (openingSize s) s))) (cut ∷ end 0 ∷ [])
+replayOf s = cond (leb (openingSize s) (length s)) (linesFrom (openingRegion s) (callsIn (drop (openingSize s) s))) (cutLine ∷ endLine 0 ∷ [])

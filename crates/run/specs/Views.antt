@@ -46,8 +46,8 @@ unfoldable pub opened : State → ℕ → ℕ → Answer → Fed
 opened s used region a = cond (accepts a) (opens s used region a) (stopped s used (Region a))
 
 -- a call was answered
-unfoldable pub called : State → ℕ → Answer → Fed
-called s used a =
+unfoldable pub callSaid : State → ℕ → Answer → Fed
+callSaid s used a =
     record {
       used = used;
       state = record {
@@ -93,10 +93,10 @@ openingAnswer s used there =
 
 -- what the bytes at hand of a call lead to, on a region
 unfoldable pub callAnswer : State → ℕ → List ℕ → List ℕ → Fed
-unfolding called
+unfolding callSaid
 callAnswer s used region there =
     elim (frontOf there) [
-      | Whole c ↦ called s used (judged region (callIn there c))
+      | Whole c ↦ callSaid s used (judged region (callIn there c))
       | Long ↦ stopped s used Cut
       | Short ↦ waits s used (length there)
     ]

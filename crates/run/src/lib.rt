@@ -11,7 +11,7 @@ ghost use mathlib.Core.List.{_++_};
 ghost use lib.ListN.{length, take, drop};
 ghost use lib.Seq.{paste};
 ghost use Rattle.run.specs.declared.Stage.the-variants.{Opening, Calls};
-ghost use Rattle.run.specs.Views.{begun, waits, stopped, opened, called, marked, wantedOf, mostOf, takenOf, openingAnswer, callAnswer, regionAnswered, memoryFed, fedOpening, fedCall, openingCalled, fed, openingFed, frameFed};
+ghost use Rattle.run.specs.Views.{begun, waits, stopped, opened, callSaid, marked, wantedOf, mostOf, takenOf, openingAnswer, callAnswer, regionAnswered, memoryFed, fedOpening, fedCall, openingCalled, fed, openingFed, frameFed};
 
 // The most bytes that an opening has, and that a call has.
 pub const MAX_OPENING: usize = 65537;
@@ -131,7 +131,7 @@ impl State {
     }
 
     fn called(self, used: usize, answer: Answer) -> Fed
-        ensures { λ r. ⌜ r ≡ called self used answer ⌝ }
+        ensures { λ r. ⌜ r ≡ callSaid self used answer ⌝ }
     {
         let calls = number::capped_sum(self.calls, 1);
         let accepted = number::capped_sum(self.accepted, one_if(answer.accepts()));

@@ -1,6 +1,6 @@
 -- `run::State::called` meets its contract: an accepted call counts for one.
 -- Assumes nothing.
-use Rattle.run.specs.Views.{called}
+use Rattle.run.specs.Views.{callSaid}
 use borrow.Author.Needs.{needs}
 use Rattle.run.proofs.State.called.Statement.{statement}
 use Rattle.run.proofs.State.called.Tie as tie
@@ -18,7 +18,7 @@ capped-sum-requires-2 : tie.Need-capped-sum-requires-2
 capped-sum-requires-2 c κs = search needs
 
 returns : tie.Need-returns
-unfolding called
+unfolding callSaid
 returns c =
     cc (c .before .before .before .capped-sum .ensures, c .before .before .accepts .ensures, c .before .one-if .ensures, c .capped-sum2 .ensures)
 
