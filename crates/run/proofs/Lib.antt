@@ -1,11 +1,4 @@
-pub mod CallStep
-pub mod Coming
-pub mod Cutting
-pub mod Example
 pub mod Gathering
 pub mod Laws
-pub mod OpeningStep
 pub mod Pieces
-pub mod Sentence
-pub mod Theorems
 pub mod Used

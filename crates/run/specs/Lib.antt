@@ -1,5 +1,1 @@
-pub mod Example
-pub mod Feeding
-pub mod Printed
-pub mod Replay
 pub mod Views

@@ -25,10 +25,10 @@ use Rattle.framed.specs.Framed.{callIn}
 use Rattle.bursar.specs.Run.{Created, Slotted, afterRun, numbersOf, Fund, taken}
 use Rattle.bursar.specs.Limits.{limitOf, recurringOf, takenAt}
 use Rattle.bursar.proofs.Theorems.{what-is-left-and-what-was-taken-are-the-opening, a-window-takes-at-most-its-limit}
-use Rattle.run.specs.Replay.{ReadCalls, callsUpTo, callsIn, Line, regionLine, callLine, cutLine, endLine, callLines, linesFrom, replayOf}
-use Rattle.run.specs.Feeding.{regionLeft}
-use Rattle.run.proofs.Cutting.{up-to-whole, up-to-no-call}
-use Rattle.run.specs.Printed.{runOf, Opened, numbered, printed}
+use Rattle.replayed.specs.Replay.{ReadCalls, callsUpTo, callsIn, Line, regionLine, callLine, cutLine, endLine, callLines, linesFrom, replayOf}
+use Rattle.replayed.specs.Feeding.{regionLeft}
+use Rattle.replayed.proofs.Cutting.{up-to-whole, up-to-no-call}
+use Rattle.replayed.specs.Printed.{runOf, Opened, numbered, printed}
 
 -- the lines of some calls by the numbers that a run of them is answered with
 lines-are-numbered : (l : List Call) (held : List ℕ) (calls accepted′ : ℕ) (isCut : Bool) → callLines held calls accepted′ isCut l

@@ -14,16 +14,16 @@ use Rattle.frame.specs.Frame.{callHead, frontOf}
 use Rattle.frame.specs.Views.{callSize}
 use Rattle.frame.proofs.Theorems.{Sized, short, long, past, there, sized, opening-size-short}
 use Rattle.bursar.specs.Run.{afterRun}
 use Rattle.run.specs.declared.Said.the-variants.{Cut, End}
 use Rattle.run.specs.declared.Fed.{Fed}
-use Rattle.run.specs.Replay.{callsIn, Line, cutLine, endLine, callLines, replayOf}
+use Rattle.replayed.specs.Replay.{callsIn, Line, cutLine, endLine, callLines, replayOf}
 use Rattle.run.specs.Views.{stopped, marked, fed, openingFed, frameFed}
-use Rattle.run.specs.Feeding.{lineOf, isEnd, Held, heldAtFirst, heldAfter, heldMarked, regionHeld, regionLeft, Says, feeds, feeds-last, marks, marks-last}
+use Rattle.replayed.specs.Feeding.{lineOf, isEnd, Held, heldAtFirst, heldAfter, heldMarked, regionHeld, regionLeft, Says, feeds, feeds-last, marks, marks-last}
 use Rattle.run.proofs.Laws.{marked-opening, marked-between, marked-inside, marked-over, at-opening, at-calls, at-over}
-use Rattle.run.proofs.Cutting.{calls-none, calls-short}
-use Rattle.run.proofs.Coming.{Opens, Judges, linesOf, Coming, opens, judges, over, Step}
-use Rattle.run.proofs.OpeningStep.{replay-cut, nothing-left, opening-step}
-use Rattle.run.proofs.CallStep.{call-step}
+use Rattle.replayed.proofs.Cutting.{calls-none, calls-short}
+use Rattle.replayed.proofs.Coming.{Opens, Judges, linesOf, Coming, opens, judges, over, Step}
+use Rattle.replayed.proofs.OpeningStep.{replay-cut, nothing-left, opening-step}
+use Rattle.replayed.proofs.CallStep.{call-step}
 
 -- a piece or the end mark is a step, or the last
 data Turn (left : List ℕ) (lines : List Line) (region : List ℕ) (r : Fed) (opening frame : List ℕ) : Type 0 where

@@ -10,11 +10,11 @@ use Rattle.answer.specs.Numbers.{accepts}
 use Rattle.creation.specs.Creation.{creation}
 use Rattle.frame.specs.Frame.{openingSize, openingRegion}
 use Rattle.bursar.specs.Run.{afterRun}
 use Rattle.run.specs.declared.State.{State}
 use Rattle.run.specs.declared.Said.{Said}
 use Rattle.run.specs.declared.Said.the-variants.{More, Region, Call, Cut, End}
-use Rattle.run.specs.Replay.{callsIn, Line, regionLine, callLine, cutLine, endLine}
+use Rattle.replayed.specs.Replay.{callsIn, Line, regionLine, callLine, cutLine, endLine}
 use Rattle.run.specs.Views.{begun, marked, regionIn, fed, openingFed, frameFed}
 
 -- the line for what was said
 abbrev pub lineOf : Said → List Line

@@ -23,8 +23,8 @@ use Rattle.freeze.specs.Freeze.{allFrozen}
 use Rattle.judge.specs.Judge.{recordsBefore, recordsAfter, amountFor, charged, soundness, rules, steps, judged, regionAfter}
 use Rattle.judge.specs.NamedValues.{one, left}
 use Rattle.frame.specs.Frame.{openingRegion, partsLength, wholeCall, frontOf}
-use Rattle.run.specs.Replay.{regionLine, callLine, cutLine, endLine, callsUpTo, callsIn, callLines, linesFrom, replayOf}
-use Rattle.run.specs.Example.{spendingBytes, b1Input, refusedInput, longInput}
+use Rattle.replayed.specs.Replay.{regionLine, callLine, cutLine, endLine, callsUpTo, callsIn, callLines, linesFrom, replayOf}
+use Rattle.replayed.specs.Example.{spendingBytes, b1Input, refusedInput, longInput}
 
 pub as-the-document-shows : (replayOf b1Input ≡ regionLine 0 ∷ callLine 1 0 ∷ callLine 2 7 ∷ callLine 3 0 ∷ endLine 2 ∷ [])
     × (replayOf (take 263 b1Input) ≡ regionLine 0 ∷ callLine 1 0 ∷ callLine 2 7 ∷ cutLine ∷ endLine 1 ∷ [])

@@ -10,7 +10,7 @@ use Rattle.number.specs.Number.{Bytes}
 use Rattle.creation.specs.Creation.{creation, howOften}
 use Rattle.judge.specs.Judge.{Call}
 use Rattle.frame.specs.Frame.{openingSize, openingRegion}
-use Rattle.run.specs.Replay.{ReadCalls, callsIn, Line, regionLine, callLine, cutLine, endLine}
+use Rattle.replayed.specs.Replay.{ReadCalls, callsIn, Line, regionLine, callLine, cutLine, endLine}
 
 -- what follows the opening, cut into calls
 abbrev pub runOf : List ℕ → ReadCalls

@@ -21,17 +21,17 @@ use Rattle.framed.specs.Framed.{callIn}
 use Rattle.framed.proofs.Laws.{call-before-more-input}
 use Rattle.bursar.specs.Run.{afterRun}
 use Rattle.bursar.proofs.OneCall.{still-stands, as-long}
 use Rattle.run.specs.declared.Stage.the-variants.{Calls}
 use Rattle.run.specs.declared.State.{State}
 use Rattle.run.specs.declared.Said.the-variants.{Cut}
 use Rattle.run.specs.declared.Fed.{Fed}
-use Rattle.run.specs.Replay.{oneMore, callsIn, Line, callLine, cutLine, endLine, callLines}
+use Rattle.replayed.specs.Replay.{oneMore, callsIn, Line, callLine, cutLine, endLine, callLines}
 use Rattle.run.specs.Views.{waits, stopped, callSaid, callAnswer, regionAnswered, memoryFed, fedCall, openingCalled}
-use Rattle.run.specs.Feeding.{Held}
+use Rattle.replayed.specs.Feeding.{Held}
 use Rattle.run.proofs.Laws.{call-answered, call-stops, call-waits, region-answered, region-stops, region-waits}
-use Rattle.run.proofs.Cutting.{calls-whole, calls-long}
+use Rattle.replayed.proofs.Cutting.{calls-whole, calls-long}
 use Rattle.run.proofs.Pieces.{taken, at-hand, left, joined-before, Goes, on, whole, goes, takes-of, there-then, front-taken}
-use Rattle.run.proofs.Coming.{Judges, linesOf, Coming, judges, over, Step}
+use Rattle.replayed.proofs.Coming.{Judges, linesOf, Coming, judges, over, Step}
 
 -- ---- the lines of a call that is all there, and what follows it
 

@@ -10,10 +10,10 @@ use Rattle.frame.specs.Frame.{regionLengthSize, callHead, openingSize}
 use Rattle.frame.specs.Views.{callSize}
 use Rattle.bursar.specs.Run.{afterRun}
 use Rattle.bursar.proofs.OneCall.{Stands}
 use Rattle.run.specs.declared.Stage.the-variants.{Opening, Calls, Over}
 use Rattle.run.specs.declared.Fed.{Fed}
-use Rattle.run.specs.Replay.{callsIn, Line, endLine, callLines, replayOf}
-use Rattle.run.specs.Feeding.{lineOf, isEnd, Held, regionHeld, regionLeft}
+use Rattle.replayed.specs.Replay.{callsIn, Line, endLine, callLines, replayOf}
+use Rattle.replayed.specs.Feeding.{lineOf, isEnd, Held, regionHeld, regionLeft}
 
 -- the opening is coming, with some of its bytes there; the input has fewer bytes than 2^64 calls have heads
 pub record Opens (h : Held) (left there : List ℕ) : Type 0 where

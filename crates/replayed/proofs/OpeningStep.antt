@@ -19,15 +19,15 @@ use Rattle.frame.proofs.Frames.{size-short}
 use Rattle.frame.proofs.Theorems.{opening-size-before-more-input, opening-region-before-more-input, opening-size-at-least}
 use Rattle.bursar.specs.Run.{afterRun}
 use Rattle.bursar.proofs.Theorems.{created-stands}
 use Rattle.run.specs.declared.Stage.the-variants.{Opening}
 use Rattle.run.specs.declared.State.{State}
 use Rattle.run.specs.declared.Fed.{Fed}
-use Rattle.run.specs.Replay.{ReadCalls, callsIn, Line, regionLine, cutLine, endLine, callLines, linesFrom, replayOf}
+use Rattle.replayed.specs.Replay.{ReadCalls, callsIn, Line, regionLine, cutLine, endLine, callLines, linesFrom, replayOf}
 use Rattle.run.specs.Views.{waits, openingAnswer, fedOpening, memoryFed}
-use Rattle.run.specs.Feeding.{Held, regionLeft}
+use Rattle.replayed.specs.Feeding.{Held, regionLeft}
 use Rattle.run.proofs.Laws.{opening-waits, opening-answered, opened-accepted, opened-refused}
 use Rattle.run.proofs.Pieces.{taken, at-hand, left, joined-before, Goes, on, whole, goes, takes-of, there-then, at-the-front, front-taken}
-use Rattle.run.proofs.Coming.{Opens, Judges, linesOf, Coming, opens, judges, over, Step}
+use Rattle.replayed.proofs.Coming.{Opens, Judges, linesOf, Coming, opens, judges, over, Step}
 
 -- ---- the lines of an input by its opening
 

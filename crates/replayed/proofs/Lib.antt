@@ -1,0 +1,7 @@
+pub mod CallStep
+pub mod Coming
+pub mod Cutting
+pub mod Example
+pub mod OpeningStep
+pub mod Sentence
+pub mod Theorems

@@ -1,0 +1,4 @@
+pub mod Example
+pub mod Feeding
+pub mod Printed
+pub mod Replay
