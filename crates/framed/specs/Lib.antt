@@ -1,1 +1,2 @@
 pub mod Framed
+pub mod Views

@@ -19,6 +19,12 @@ frame-read-call _ _ = (tt, λ _ _ p q. both (one-outcome p q) refl)
 pub framed-judge-call : OneOutcome framed.judge_call.ended framed.judge_call.Reads.Pre framed.judge_call.Reads.Post
 framed-judge-call _ _ = (tt, λ _ _ p q. both (one-outcome (p .0) (q .0)) (both (one-outcome (p .1) (q .1)) refl))
 
+pub framed-hear-opening : OneOutcome framed.hear_opening.ended framed.hear_opening.Reads.Pre framed.hear_opening.Reads.Post
+framed-hear-opening _ _ = (tt, λ _ _ p q. both (one-outcome p q) refl)
+
+pub framed-hear-call : OneOutcome framed.hear_call.ended framed.hear_call.Reads.Pre framed.hear_call.Reads.Post
+framed-hear-call _ _ = (tt, λ _ _ p q. both (one-outcome (p .0) (q .0)) (both (one-outcome (p .1) (q .1)) refl))
+
 pub run-State-new : OneOutcome run.State.new.ended run.State.new.Reads.Pre run.State.new.Reads.Post
 run-State-new _ _ = (tt, λ _ _ p q. both (one-outcome p q) refl)
 

@@ -18,7 +18,8 @@ use Rattle.frame.specs.Views.{callSize}
 use Rattle.frame.proofs.Frames.{size-short}
 use Rattle.frame.proofs.Theorems.{Sized, short, long, past, there, sized, front-before-more-input, call-is-there, call-size-before-more-input, call-size-at-least}
 use Rattle.framed.specs.Framed.{callIn}
-use Rattle.framed.proofs.Laws.{call-before-more-input}
+use Rattle.framed.specs.Views.{regionHeard}
+use Rattle.framed.proofs.Laws.{region-judged, region-too-long, region-waits, call-before-more-input}
 use Rattle.bursar.specs.Run.{afterRun}
 use Rattle.bursar.proofs.OneCall.{still-stands, as-long}
 use Rattle.run.specs.declared.Stage.the-variants.{Calls}
@@ -26,9 +27,9 @@ use Rattle.run.specs.declared.State.{State}
 use Rattle.run.specs.declared.Said.the-variants.{Cut}
 use Rattle.run.specs.declared.Fed.{Fed}
 use Rattle.replayed.specs.Replay.{oneMore, callsIn, Line, callLine, cutLine, endLine, callLines}
-use Rattle.run.specs.Views.{waits, stopped, callSaid, callAnswer, regionAnswered, memoryFed, fedCall, openingCalled}
+use Rattle.run.specs.Views.{waits, stopped, callSaid, callAnswer, memoryFed, fedCall, openingCalled}
 use Rattle.replayed.specs.Feeding.{Held}
-use Rattle.run.proofs.Laws.{call-answered, call-stops, call-waits, region-answered, region-stops, region-waits}
+use Rattle.run.proofs.Laws.{call-answered, call-stops, call-waits}
 use Rattle.replayed.proofs.Cutting.{calls-whole, calls-long}
 use Rattle.run.proofs.Pieces.{taken, at-hand, left, joined-before, Goes, on, whole, goes, takes-of, there-then, front-taken}
 use Rattle.replayed.proofs.Coming.{Judges, linesOf, Coming, judges, over, Step}
@@ -192,25 +193,25 @@ module _ (h : Held) (piece rest now region : List ℕ) (at : Judges h (piece ++ 
         }
 
   -- by what the bytes at hand begin with
-  by-front : Goes Calls now piece → StepTo (callAnswer state n region there-now) (regionAnswered region there-now)
+  by-front : Goes Calls now piece → StepTo (callAnswer state n region there-now) (regionHeard region there-now)
   by-front (on less) = go (sized there-now)
     where
-      waits-still : frontOf there-now ≡ Short → StepTo (callAnswer state n region there-now) (regionAnswered region there-now)
-      waits-still front = rw (call-waits state n there-now region front, region-waits region there-now front) (still-judges less)
+      waits-still : frontOf there-now ≡ Short → StepTo (callAnswer state n region there-now) (regionHeard region there-now)
+      waits-still front = rw (call-waits state n there-now region front, region-waits there-now region front) (still-judges less)
 
-      go : Sized there-now → StepTo (callAnswer state n region there-now) (regionAnswered region there-now)
+      go : Sized there-now → StepTo (callAnswer state n region there-now) (regionHeard region there-now)
       go (short _ _ front) = waits-still front
       go (long head _ size _) = absurd (omega arith)
       go (past _ _ _ _ front) = waits-still front
       go (there _ _ _ all _) = absurd (omega arith)
   by-front (whole size) = go (sized there-now)
     where
-      go : Sized there-now → StepTo (callAnswer state n region there-now) (regionAnswered region there-now)
+      go : Sized there-now → StepTo (callAnswer state n region there-now) (regionHeard region there-now)
       go (short less told _) = absurd (omega arith)
-      go (long _ _ _ front) = rw (call-stops state n there-now region front, region-stops region there-now front) (too-long size front)
+      go (long _ _ _ front) = rw (call-stops state n there-now region front, region-too-long there-now region front) (too-long size front)
       go (past _ _ _ less _) = absurd (omega arith)
       go (there _ _ _ _ front) =
-          rw (call-answered state n there-now region (wholeCall there-now) front, region-answered region there-now (wholeCall there-now) front)
+          rw (call-answered state n there-now region (wholeCall there-now) front, region-judged there-now region (wholeCall there-now) front)
           (was-judged size (wholeCall there-now) front)
 
   pub call-step : Step (drop (fedCall state (h .opening) (h .frame) piece .used) piece ++ rest) lines in-the-end (fedCall state (h .opening) (h .frame) piece)

@@ -13,10 +13,12 @@ use Rattle.number.specs.Number.{Bytes}
 use Rattle.frame.specs.Frame.{regionLengthSize, callHead}
 use Rattle.frame.proofs.Frames.{size-short}
 use Rattle.frame.proofs.Theorems.{le-or-lt, opening-size-short, opening-size-at-least, opening-size-at-most, opening-size-before-more-input, call-size-at-least, call-size-at-most, call-size-before-more-input}
+use Rattle.framed.specs.declared.Heard.{Heard}
+use Rattle.framed.specs.Views.{openingHeard, callHeard, regionHeard}
 use Rattle.run.specs.declared.Stage.{Stage}
 use Rattle.run.specs.declared.Stage.the-variants.{Opening, Calls, Over}
 use Rattle.run.specs.declared.State.{State}
-use Rattle.run.specs.Views.{wantedOf, mostOf, takenOf, openingAnswer, callAnswer, regionAnswered, atHand, memoryFed, regionIn, fedOpening, fedCall, openingCalled}
+use Rattle.run.specs.Views.{hears, wantedOf, mostOf, takenOf, openingAnswer, callAnswer, atHand, memoryFed, regionIn, fedOpening, fedCall, openingCalled}
 
 -- the bytes that tell the size of what is coming
 abbrev pub headOf : Stage → ℕ
@@ -155,13 +157,14 @@ clamped-drop : (n : ℕ) (s : List ℕ) → drop (min n (length s)) s ≡ drop n
 clamped-drop n s = past-the-end (λ (m : ℕ). drop m s) (length s) (λ m h. drop-of-length-le s {i = m} h ∙ sym (drop-length s)) n
 
 -- what is at hand after a piece, where the state's count of bytes may be anything
-pub record Handed (stage : Stage) (n used : ℕ) (memory piece after there : List ℕ) : Type 0 where
+pub record Handed (stage : Stage) (n used count : ℕ) (memory piece after there : List ℕ) : Type 0 where
   pub takes : used ≡ takenOf stage (take n memory) piece
   pub there-is : there ≡ atHand stage n memory piece
   pub memory-is : after ≡ memoryFed stage n memory piece
+  pub long : length there ≡ count
 
 pub handed : (stage : Stage) (n got used : ℕ) (memory piece after : List ℕ) → got ≡ min n (length memory)
-    → used ≡ takenOf stage (take got memory) piece → after ≡ paste memory got piece used → Handed stage n used memory piece after (take (got + used) after)
+    → used ≡ takenOf stage (take got memory) piece → after ≡ paste memory got piece used → Handed stage n used (got + used) memory piece after (take (got + used) after)
 unfolding takenOf atHand memoryFed
 handed stage n got used memory piece after e t p =
     let same : take got memory ≡ take n memory = rw (e, clamped n memory) in
@@ -173,21 +176,32 @@ handed stage n got used memory piece after e t p =
       takes = t′;
       there-is = there ∙ rw (same, t′);
       memory-is = p ∙ rw (size, t′);
+      long = ap length there ∙ length-append (take got memory) (take used piece) ∙ rw (length-take-le got memory (omega arith), length-take-le used piece few);
     }
 
+-- what is heard of the bytes at hand is the answer to them
+module _ (s : State) (used n : ℕ) (there : List ℕ) (heard : Heard) (size : length there ≡ n) where
+  pub heard-opening : heard ≡ openingHeard there → hears s used n heard ≡ openingAnswer s used there
+  unfolding openingAnswer
+  heard-opening is = ap₂ (hears s used) (sym size) is
+
+  pub heard-call : (region : List ℕ) → heard ≡ callHeard region there → hears s used n heard ≡ callAnswer s used region there
+  unfolding callAnswer
+  heard-call region is = ap₂ (hears s used) (sym size) is
+
 module _ (s : State) (used : ℕ) where
-  pub fed-opening : {opening piece after there : List ℕ} → Handed Opening (s .got) used opening piece after there
+  pub fed-opening : {count : ℕ} {opening piece after there : List ℕ} → Handed Opening (s .got) used count opening piece after there
       → openingAnswer s used there ≡ fedOpening s opening piece
   unfolding fedOpening
   fed-opening by = ap₂ (openingAnswer s) (by .takes) (by .there-is)
 
-  module _ {frame piece after there : List ℕ} (region opening : List ℕ) (by : Handed Calls (s .got) used frame piece after there)
+  module _ {count : ℕ} {frame piece after there : List ℕ} (region opening : List ℕ) (by : Handed Calls (s .got) used count frame piece after there)
       (is : region ≡ regionIn s opening) where
     pub fed-call : callAnswer s used region there ≡ fedCall s opening frame piece
     unfolding fedCall
     fed-call = rw is (ap₂ (λ (n : ℕ) (b : List ℕ). callAnswer s n (regionIn s opening) b) (by .takes) (by .there-is))
 
-    pub region-called : regionAnswered region there ≡ regionAnswered (regionIn s opening) (atHand Calls (s .got) frame piece)
+    pub region-called : regionHeard region there ≡ regionHeard (regionIn s opening) (atHand Calls (s .got) frame piece)
     region-called = rw (is, by .there-is)
 
 -- the part of the opening that is lent is the region, and what follows it stays, where the state's length of the region may be anything
@@ -203,7 +217,7 @@ module _ (s : State) (opening : List ℕ) (k : ℕ) (e : k ≡ min (s .region) (
   unfolding behind
   region-part = rw as-long (clamped (s .region) behind)
 
-  pub rest-stays : (frame piece region : List ℕ) → region ≡ regionAnswered (regionIn s opening) (atHand Calls (s .got) frame piece)
+  pub rest-stays : (frame piece region : List ℕ) → region ≡ regionHeard (regionIn s opening) (atHand Calls (s .got) frame piece)
       → take regionLengthSize opening ++ (region ++ drop (regionLengthSize + k - regionLengthSize) (drop regionLengthSize opening))
       ≡ openingCalled s opening frame piece
   unfolding behind openingCalled

@@ -4,23 +4,24 @@ use Prim.Native.Nat.{ℕ, _<_, _≤_}
 use mathlib.Core.Path.{_≡_, ap}
 use mathlib.Core.Bool.{true, false}
 use mathlib.Core.List.{List}
-use borrow.Author.Tests.{eq-eqb, ne-eqb, le-leb, lt-leb}
+use borrow.Author.Tests.{eq-eqb, ne-eqb}
 use lib.ListN.{length}
 use Rattle.answer.specs.declared.Answer.{Answer}
 use Rattle.answer.specs.Numbers.{accepts}
 use Rattle.number.specs.Number.{numberAt}
 use Rattle.creation.specs.Creation.{creation}
-use Rattle.judge.specs.Judge.{judged, regionAfter}
+use Rattle.judge.specs.Judge.{judged}
 use Rattle.frame.specs.declared.CallView.{CallView}
 use Rattle.frame.specs.declared.Front.the-variants.{Whole, Long, Short}
 use Rattle.frame.specs.Frame.{openingSize, openingRegion, frontOf}
 use Rattle.framed.specs.Framed.{callIn}
+use Rattle.framed.proofs.Laws.{opening-waits as heard-waits, opening-answered as heard-answered, call-judged, call-too-long, call-waits as heard-short}
 use Rattle.run.specs.declared.Stage.{Stage}
 use Rattle.run.specs.declared.Stage.the-variants.{Opening, Calls, Over}
 use Rattle.run.specs.declared.State.{State}
 use Rattle.run.specs.declared.Fed.{Fed}
 use Rattle.run.specs.declared.Said.the-variants.{Region, Cut, End}
-use Rattle.run.specs.Views.{waits, stopped, opened, opens, callSaid, marked, openingAnswer, callAnswer, regionAnswered, memoryFed, fedOpening, fedCall, openingCalled, fedAt, fed, openingFedAt, openingFed, frameFedAt, frameFed}
+use Rattle.run.specs.Views.{waits, stopped, opened, opens, callSaid, hears, marked, openingAnswer, callAnswer, memoryFed, fedOpening, fedCall, openingCalled, fedAt, fed, openingFedAt, openingFed, frameFedAt, frameFed}
 
 -- what feeding a piece comes to: the result and both memories afterwards
 pub record FedAs (s : State) (opening frame piece : List ℕ) (r : Fed) (opening′ frame′ : List ℕ) : Type 0 where
@@ -57,37 +58,24 @@ module _ (s : State) where
   module _ (used : ℕ) (there : List ℕ) where
     pub opening-waits : length there < openingSize there → openingAnswer s used there ≡ waits s used (length there)
     unfolding openingAnswer
-    opening-waits short = rw (lt-leb _ _ short)
+    opening-waits short = ap (hears s used (length there)) (heard-waits there short)
 
     pub opening-answered : openingSize there ≤ length there → openingAnswer s used there ≡ opened s used (numberAt 2 there 0) (creation (openingRegion there))
     unfolding openingAnswer
-    opening-answered all = rw (le-leb _ _ all)
+    opening-answered all = ap (hears s used (length there)) (heard-answered there all)
 
     module _ (region : List ℕ) where
       pub call-answered : (c : CallView) → frontOf there ≡ Whole c → callAnswer s used region there ≡ callSaid s used (judged region (callIn there c))
       unfolding callAnswer
-      call-answered c front = rw (front, callAnswer)
+      call-answered c front = ap (hears s used (length there)) (call-judged there region c front)
 
       pub call-stops : frontOf there ≡ Long → callAnswer s used region there ≡ stopped s used Cut
       unfolding callAnswer
-      call-stops front = rw (front, callAnswer)
+      call-stops front = ap (hears s used (length there)) (call-too-long there region front)
 
       pub call-waits : frontOf there ≡ Short → callAnswer s used region there ≡ waits s used (length there)
       unfolding callAnswer
-      call-waits front = rw (front, callAnswer)
-
-module _ (region there : List ℕ) where
-  pub region-answered : (c : CallView) → frontOf there ≡ Whole c → regionAnswered region there ≡ regionAfter region (callIn there c)
-  unfolding regionAnswered
-  region-answered c front = rw (front, regionAnswered)
-
-  pub region-stops : frontOf there ≡ Long → regionAnswered region there ≡ region
-  unfolding regionAnswered
-  region-stops front = rw (front, regionAnswered)
-
-  pub region-waits : frontOf there ≡ Short → regionAnswered region there ≡ region
-  unfolding regionAnswered
-  region-waits front = rw (front, regionAnswered)
+      call-waits front = ap (hears s used (length there)) (heard-short there region front)
 
 module _ (s : State) (opening frame piece : List ℕ) where
   -- what is coming decides

@@ -1,53 +1,47 @@
 -- What is used of a piece is never more than the piece, and all of it where more is needed; the end of the input uses nothing.
 -- Assumes nothing.
 use Prim.Native.Nat.{ℕ, _<_, _≤_}
-use mathlib.Core.Path.{_≡_, refl, ap, _∙_}
+use mathlib.Core.Path.{_≡_, refl}
 use mathlib.Core.Bool.{Bool, true, false}
 use mathlib.Core.List.{List}
 use mathlib.Core.Logic.{⊎-elim}
 use native.Mathlib.Omega.{arith}
-use lib.Dec.{leb, eqb}
+use lib.Dec.{eqb}
 use lib.ListN.{length, take}
 use Rattle.answer.specs.declared.Answer.{Answer}
 use Rattle.answer.specs.Numbers.{accepts}
-use Rattle.number.specs.Number.{numberAt}
-use Rattle.creation.specs.Creation.{creation}
-use Rattle.frame.specs.declared.Front.{Front}
-use Rattle.frame.specs.declared.Front.the-variants.{Whole, Long, Short}
-use Rattle.frame.specs.Frame.{openingSize, openingRegion, frontOf}
+use Rattle.frame.specs.Frame.{openingSize}
 use Rattle.frame.specs.Views.{callSize}
 use Rattle.frame.proofs.Theorems.{le-or-lt, Sized, short, long, past, there as all-there, sized}
+use Rattle.framed.specs.declared.Heard.{Heard}
+use Rattle.framed.specs.declared.Heard.the-variants.{Waiting, TooLong, Opened, Judged}
+use Rattle.framed.specs.Views.{openingHeard, callHeard}
+use Rattle.framed.proofs.Laws.{opening-answered, call-judged, call-too-long}
 use Rattle.run.specs.declared.Stage.{Stage}
 use Rattle.run.specs.declared.Stage.the-variants.{Opening, Calls, Over}
 use Rattle.run.specs.declared.State.{State}
 use Rattle.run.specs.declared.Said.the-variants.{More, Region}
-use Rattle.run.specs.declared.Fed.{Fed}
-use Rattle.run.specs.Views.{opened, callSaid, marked, takenOf, openingAnswer, callAnswer, fedOpening, fedCall, fedAt, fed}
-use Rattle.run.proofs.Laws.{marked-opening, marked-over, opened-accepted, opened-refused, opening-answered, call-answered, call-stops, call-waits}
+use Rattle.run.specs.Views.{opened, callSaid, hears, marked, takenOf, openingAnswer, callAnswer, fedOpening, fedCall, fedAt, fed}
+use Rattle.run.proofs.Laws.{marked-opening, marked-over, opened-accepted, opened-refused}
 use Rattle.run.proofs.Pieces.{all-taken, there-then}
 
--- whatever is answered, so many bytes are used as were taken
-module _ (s : State) (used : ℕ) where
+-- whatever is heard, so many bytes are used as were taken
+module _ (s : State) (used got : ℕ) where
   opened-uses : (region : ℕ) (a : Answer) (accepted : Bool) → accepts a ≡ accepted → opened s used region a .used ≡ used
   opened-uses region a true is = rw (opened-accepted s used region a is)
   opened-uses region a false is = rw (opened-refused s used region a is)
 
-  module _ (there : List ℕ) where
-    opening-uses : (all : Bool) → leb (openingSize there) (length there) ≡ all → openingAnswer s used there .used ≡ used
-    unfolding openingAnswer
-    opening-uses true is = rw is (opened-uses (numberAt 2 there 0) (creation (openingRegion there)) _ refl)
-    opening-uses false is = rw is
-
-    call-uses : (region : List ℕ) (front : Front) → frontOf there ≡ front → callAnswer s used region there .used ≡ used
-    unfolding callSaid
-    call-uses region (Whole c) is = rw (call-answered s used there region c is)
-    call-uses region Long is = rw (call-stops s used there region is)
-    call-uses region Short is = rw (call-waits s used there region is)
+  hears-uses : (heard : Heard) → hears s used got heard .used ≡ used
+  unfolding callSaid
+  hears-uses Waiting = refl
+  hears-uses TooLong = refl
+  hears-uses (Opened region a) = opened-uses region a _ refl
+  hears-uses (Judged a) = refl
 
 used-at : (stage : Stage) (s : State) (opening frame piece : List ℕ) → fedAt stage s opening frame piece .used ≤ length piece
-unfolding takenOf fedOpening fedCall
-used-at Opening s opening frame piece = rw (opening-uses s _ _ _ refl) (omega arith)
-used-at Calls s opening frame piece = rw (call-uses s _ _ _ _ refl) (omega arith)
+unfolding takenOf openingAnswer callAnswer fedOpening fedCall
+used-at Opening s opening frame piece = rw (hears-uses s _ _ _) (omega arith)
+used-at Calls s opening frame piece = rw (hears-uses s _ _ _) (omega arith)
 used-at Over s opening frame piece = omega arith
 
 pub used-within : (s : State) (opening frame piece : List ℕ) → fed s opening frame piece .used ≤ length piece
@@ -56,45 +50,43 @@ used-within s opening frame piece = used-at (s .stage) s opening frame piece
 
 -- ---- more is needed only where all of a piece was used
 
-module _ (s : State) (used : ℕ) where
+module _ (s : State) (used got : ℕ) where
   opened-says : (region : ℕ) (a : Answer) (accepted : Bool) → accepts a ≡ accepted → opened s used region a .said ≡ Region a
   opened-says region a true is = rw (opened-accepted s used region a is)
   opened-says region a false is = rw (opened-refused s used region a is)
 
-  module _ (there : List ℕ) where
-    opening-more : openingAnswer s used there .said ≡ More → length there < openingSize there
-    opening-more more = ⊎-elim (λ all. absurd (never all)) (λ less. less) (le-or-lt (openingSize there) (length there))
-      where
-        never : openingSize there ≤ length there → ⊥
-        never all =
-            let says = opened-says (numberAt 2 there 0) (creation (openingRegion there)) _ refl in
-            let is = ap (λ (r : Fed). r .said) (opening-answered s used there all) ∙ says in
-            let z : _≡_ {A = ℕ} 0 1 = cc in
-            omega arith
+  hears-more : (heard : Heard) → hears s used got heard .said ≡ More → heard ≡ Waiting
+  unfolding callSaid
+  hears-more Waiting more = refl
+  hears-more TooLong more = cc
+  hears-more (Opened region a) more = let says = opened-says region a _ refl in cc
+  hears-more (Judged a) more = cc
 
-    call-more : (region : List ℕ) → callAnswer s used region there .said ≡ More → length there < callSize there
-    unfolding callSaid
-    call-more region more = go (sized there)
-      where
-        go : Sized there → length there < callSize there
-        go (short less size _) = omega arith
-        go (long _ _ _ front) =
-            let is = ap (λ (r : Fed). r .said) (call-stops s used there region front) in
-            absurd (let z : _≡_ {A = ℕ} 0 1 = cc in omega arith)
-        go (past _ _ _ less _) = less
-        go (all-there _ _ _ _ front) =
-            let is = ap (λ (r : Fed). r .said) (call-answered s used there region _ front) in
-            absurd (let z : _≡_ {A = ℕ} 0 1 = cc in omega arith)
+module _ (there : List ℕ) where
+  opening-more : openingHeard there ≡ Waiting → length there < openingSize there
+  opening-more waits = ⊎-elim (λ all. absurd (never all)) (λ less. less) (le-or-lt (openingSize there) (length there))
+    where
+      never : openingSize there ≤ length there → ⊥
+      never all = let is = opening-answered there all in let z : _≡_ {A = ℕ} 0 1 = cc in omega arith
+
+  call-more : (region : List ℕ) → callHeard region there ≡ Waiting → length there < callSize there
+  call-more region waits = go (sized there)
+    where
+      go : Sized there → length there < callSize there
+      go (short less size _) = omega arith
+      go (long _ _ _ front) = let is = call-too-long there region front in absurd (let z : _≡_ {A = ℕ} 0 1 = cc in omega arith)
+      go (past _ _ _ less _) = less
+      go (all-there _ _ _ _ front) = let is = call-judged there region _ front in absurd (let z : _≡_ {A = ℕ} 0 1 = cc in omega arith)
 
 more-at : (stage : Stage) (s : State) (opening frame piece : List ℕ) → fedAt stage s opening frame piece .said ≡ More
     → fedAt stage s opening frame piece .used ≡ length piece
-unfolding fedOpening fedCall
+unfolding openingAnswer callAnswer fedOpening fedCall
 more-at Opening s opening frame piece more =
-    rw (opening-uses s _ _ _ refl)
-    (all-taken Opening (take (s .got) opening) piece (rw (there-then Opening (s .got) opening piece refl) at (opening-more s _ _ more)))
+    rw (hears-uses s _ _ _)
+    (all-taken Opening (take (s .got) opening) piece (rw (there-then Opening (s .got) opening piece refl) at (opening-more _ (hears-more s _ _ _ more))))
 more-at Calls s opening frame piece more =
-    rw (call-uses s _ _ _ _ refl)
-    (all-taken Calls (take (s .got) frame) piece (rw (there-then Calls (s .got) frame piece refl) at (call-more s _ _ _ more)))
+    rw (hears-uses s _ _ _)
+    (all-taken Calls (take (s .got) frame) piece (rw (there-then Calls (s .got) frame piece refl) at (call-more _ _ (hears-more s _ _ _ more))))
 more-at Over s opening frame piece more = absurd (let z : _≡_ {A = ℕ} 0 1 = cc in omega arith)
 
 -- so who is told that more is needed may go on with the next piece

@@ -3,18 +3,17 @@
 use Prim.Native.Nat.{ℕ, _+_, _-_, min}
 use mathlib.Core.Bool.{cond}
 use mathlib.Core.List.{List, _++_}
-use lib.Dec.{leb, eqb}
+use lib.Dec.{eqb}
 use lib.ListN.{length, take, drop}
 use lib.Seq.{paste}
 use Rattle.answer.specs.declared.Answer.{Answer}
 use Rattle.answer.specs.Numbers.{accepts}
-use Rattle.number.specs.Number.{numberAt, cappedSum}
-use Rattle.creation.specs.Creation.{creation}
-use Rattle.judge.specs.Judge.{judged, regionAfter}
-use Rattle.frame.specs.declared.Front.the-variants.{Whole, Long, Short}
-use Rattle.frame.specs.Frame.{regionLengthSize, callHead, mostParts, openingSize, openingRegion, frontOf}
+use Rattle.number.specs.Number.{cappedSum}
+use Rattle.frame.specs.Frame.{regionLengthSize, callHead, mostParts, openingSize}
 use Rattle.frame.specs.Views.{callSize}
-use Rattle.framed.specs.Framed.{callIn}
+use Rattle.framed.specs.declared.Heard.{Heard}
+use Rattle.framed.specs.declared.Heard.the-variants.{Waiting, TooLong, Opened, Judged}
+use Rattle.framed.specs.Views.{openingHeard, callHeard, regionHeard}
 use Rattle.run.specs.declared.Stage.{Stage}
 use Rattle.run.specs.declared.Stage.the-variants.{Opening, Calls, Over}
 use Rattle.run.specs.declared.State.{State}
@@ -85,25 +84,20 @@ mostOf Over = 0
 unfoldable pub takenOf : Stage → List ℕ → List ℕ → ℕ
 takenOf stage there piece = min (wantedOf stage (there ++ piece) - length there) (length piece)
 
--- what the bytes at hand of the opening lead to
+-- what the bytes at hand came to, so many now
+abbrev pub hears : State → ℕ → ℕ → Heard → Fed
+hears s used got Waiting = waits s used got
+hears s used got TooLong = stopped s used Cut
+hears s used got (Opened len a) = opened s used len a
+hears s used got (Judged a) = callSaid s used a
+
+-- the bytes at hand of the opening are heard
 unfoldable pub openingAnswer : State → ℕ → List ℕ → Fed
-unfolding opened
-openingAnswer s used there =
-    cond (leb (openingSize there) (length there)) (opened s used (numberAt 2 there 0) (creation (openingRegion there))) (waits s used (length there))
+openingAnswer s used there = hears s used (length there) (openingHeard there)
 
--- what the bytes at hand of a call lead to, on a region
+-- those of a call, on a region
 unfoldable pub callAnswer : State → ℕ → List ℕ → List ℕ → Fed
-unfolding callSaid
-callAnswer s used region there =
-    elim (frontOf there) [
-      | Whole c ↦ callSaid s used (judged region (callIn there c))
-      | Long ↦ stopped s used Cut
-      | Short ↦ waits s used (length there)
-    ]
-
--- and the region afterwards
-unfoldable pub regionAnswered : List ℕ → List ℕ → List ℕ
-regionAnswered region there = elim (frontOf there) [ Whole c ↦ regionAfter region (callIn there c) | Long ↦ region | Short ↦ region ]
+callAnswer s used region there = hears s used (length there) (callHeard region there)
 
 -- what is at hand in a memory, with what a piece adds
 unfoldable pub atHand : Stage → ℕ → List ℕ → List ℕ → List ℕ
@@ -130,10 +124,10 @@ fedCall s opening frame piece =
 
 -- the memory of the opening after a call's bytes: the region in it as the call left it
 unfoldable pub openingCalled : State → List ℕ → List ℕ → List ℕ → List ℕ
-unfolding atHand regionAnswered
+unfolding atHand regionHeard
 openingCalled s opening frame piece =
     take regionLengthSize opening
-    ++ (regionAnswered (regionIn s opening) (atHand Calls (s .got) frame piece) ++ drop (s .region) (drop regionLengthSize opening))
+    ++ (regionHeard (regionIn s opening) (atHand Calls (s .got) frame piece) ++ drop (s .region) (drop regionLengthSize opening))
 
 -- what a piece leads to, by what is coming
 abbrev pub fedAt : Stage → State → List ℕ → List ℕ → List ℕ → Fed

@@ -2,8 +2,8 @@
 // says what happened. The memory is lent and fixed, whatever the input's length: one part holds the
 // opening, in which the region is judged where it lies, the other the call that is coming.
 use answer::Answer;
-use frame::Front;
 use frame::REGION_LENGTH_SIZE;
+use framed::Heard;
 ghost use Prim.Native.Nat.{_+_, _-_, _≤_, min};
 ghost use mathlib.Core.Path.{_≡_};
 ghost use mathlib.Core.Bool.{cond};
@@ -11,7 +11,7 @@ ghost use mathlib.Core.List.{_++_};
 ghost use lib.ListN.{length, take, drop};
 ghost use lib.Seq.{paste};
 ghost use Rattle.run.specs.declared.Stage.the-variants.{Opening, Calls};
-ghost use Rattle.run.specs.Views.{begun, waits, stopped, opened, callSaid, marked, wantedOf, mostOf, takenOf, openingAnswer, callAnswer, regionAnswered, memoryFed, fedOpening, fedCall, openingCalled, fed, openingFed, frameFed};
+ghost use Rattle.run.specs.Views.{begun, waits, stopped, opened, callSaid, hears, marked, wantedOf, mostOf, takenOf, memoryFed, fedOpening, fedCall, openingCalled, fed, openingFed, frameFed};
 
 // The most bytes that an opening has, and that a call has.
 pub const MAX_OPENING: usize = 65537;
@@ -149,6 +149,18 @@ impl State {
         }
     }
 
+    // With what the bytes at hand came to, so many now.
+    fn hears(self, used: usize, there: usize, heard: Heard) -> Fed
+        ensures { λ r. ⌜ r ≡ hears self used there heard ⌝ }
+    {
+        match heard {
+            Heard::Waiting => self.waits(used, there),
+            Heard::TooLong => self.stopped(used, Said::Cut),
+            Heard::Opened(region, answer) => self.opened(used, region, answer),
+            Heard::Judged(answer) => self.called(used, answer),
+        }
+    }
+
     // The input ended: what that means for the run. Then, and whatever is fed to a run that is over, it
     // ends.
     pub fn end(self) -> Fed
@@ -215,34 +227,6 @@ fn gather(stage: Stage, memory: &mut [u8], got: usize, piece: &[u8]) -> usize
     first + fill(memory, there, size, &piece[first..])
 }
 
-// What the bytes at hand of the opening lead to.
-fn answer_opening(state: State, used: usize, bytes: &[u8]) -> Fed
-    ensures { λ r. ⌜ r ≡ openingAnswer state used (now (bytes .entry)) ⌝ }
-{
-    let size = frame::opening_size(bytes);
-    if bytes.len() < size {
-        return state.waits(used, bytes.len());
-    }
-    let answer = creation::validate_actions_buffer(&bytes[REGION_LENGTH_SIZE..size]);
-    state.opened(used, size - REGION_LENGTH_SIZE, answer)
-}
-
-// What the bytes at hand of a call lead to; a whole one is judged.
-fn answer_call(state: State, used: usize, region: &mut [u8], bytes: &[u8]) -> Fed
-    ensures { λ r. ⌜ r ≡ callAnswer state used (now (region .entry)) (now (bytes .entry)) ⌝ }
-    ensures { λ _. ⌜ now (region .exit) ≡ regionAnswered (now (region .entry)) (now (bytes .entry)) ⌝ }
-{
-    let front = frame::read_call(bytes);
-    match front {
-        Front::Whole(call) => {
-            let answer = framed::judge_call(region, bytes, call);
-            state.called(used, answer)
-        }
-        Front::Long => state.stopped(used, Said::Cut),
-        Front::Short => state.waits(used, bytes.len()),
-    }
-}
-
 fn feed_opening(state: State, opening: &mut [u8], piece: &[u8]) -> Fed
     requires { ⌜ mostOf Opening ≤ length (now opening) ⌝ }
     ensures { λ r. ⌜ r ≡ fedOpening state (now (opening .entry)) (now (piece .entry)) ⌝ }
@@ -251,7 +235,8 @@ fn feed_opening(state: State, opening: &mut [u8], piece: &[u8]) -> Fed
     let got = least(state.got, opening.len());
     let used = gather(Stage::Opening, opening, got, piece);
     let there = got + used;
-    answer_opening(state, used, &opening[..there])
+    let heard = framed::hear_opening(&opening[..there]);
+    state.hears(used, there, heard)
 }
 
 fn feed_call(state: State, opening: &mut [u8], frame: &mut [u8], piece: &[u8]) -> Fed
@@ -265,12 +250,8 @@ fn feed_call(state: State, opening: &mut [u8], frame: &mut [u8], piece: &[u8]) -
     let used = gather(Stage::Calls, frame, got, piece);
     let there = got + used;
     let end = REGION_LENGTH_SIZE + least(state.region, opening.len() - REGION_LENGTH_SIZE);
-    answer_call(
-        state,
-        used,
-        &mut opening[REGION_LENGTH_SIZE..end],
-        &frame[..there],
-    )
+    let heard = framed::hear_call(&mut opening[REGION_LENGTH_SIZE..end], &frame[..there]);
+    state.hears(used, there, heard)
 }
 
 // Feeds a piece of the input, of any length: the bytes that come next.
