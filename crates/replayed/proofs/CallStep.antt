@@ -1,12 +1,12 @@
 -- One piece of the calls: the call is still not whole, or it was judged, or it is too long.
 -- Assumes nothing.
 use Prim.Native.Nat.{ℕ, _+_, _*_, _^_, _<_, _≤_}
-use mathlib.Core.Path.{_≡_, refl, sym, ap, subst, _∙_}
+use mathlib.Core.Path.{_≡_, refl, sym, ap, _∙_}
 use mathlib.Core.Bool.{Bool, true, false, cond}
-use mathlib.Core.List.{List, [], _∷_, _++_, append-assoc}
+use mathlib.Core.List.{List, [], _∷_, _++_}
 use native.Mathlib.Nat.{le-refl}
 use native.Mathlib.Omega.{arith}
-use lib.ListN.{length, take, drop, length-append, take-append-drop}
+use lib.ListN.{length, take, drop, length-append}
 use lib.Seq.{take-append-seam, drop-append-seam, drop-at, length-take-le}
 use Rattle.answer.specs.Numbers.{accepts}
 use Rattle.number.specs.Number.{cappedSum, highest}
@@ -32,7 +32,7 @@ use Rattle.replayed.specs.Feeding.{Held}
 use Rattle.run.proofs.Laws.{call-answered, call-stops, call-waits}
 use Rattle.replayed.proofs.Cutting.{calls-whole, calls-long}
 use Rattle.run.proofs.Pieces.{taken, at-hand, left, joined-before, Goes, on, whole, goes, takes-of, there-then, front-taken}
-use Rattle.replayed.proofs.Coming.{Judges, linesOf, Coming, judges, over, Step}
+use Rattle.replayed.proofs.Coming.{Judges, linesOf, judges, over, Step}
 
 -- ---- the lines of a call that is all there, and what follows it
 

@@ -4,7 +4,7 @@ use Prim.Native.Nat.{ℕ, _+_, _*_, _^_, _<_, _≤_}
 use mathlib.Core.Path.{_≡_}
 use mathlib.Core.Bool.{false}
 use mathlib.Core.List.{List, [], _∷_, _++_}
-use lib.ListN.{length, take, drop}
+use lib.ListN.{length, take}
 use Rattle.number.specs.Number.{Bytes}
 use Rattle.frame.specs.Frame.{regionLengthSize, callHead, openingSize}
 use Rattle.frame.specs.Views.{callSize}

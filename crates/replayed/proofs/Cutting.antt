@@ -14,7 +14,7 @@ use Rattle.frame.specs.declared.Front.the-variants.{Whole, Long, Short}
 use Rattle.frame.specs.Frame.{callHead, partsLength, frontOf}
 use Rattle.frame.proofs.Theorems.{call-is-there}
 use Rattle.framed.specs.Framed.{callIn}
-use Rattle.replayed.specs.Replay.{ReadCalls, oneMore, callsUpTo, callsIn}
+use Rattle.replayed.specs.Replay.{oneMore, callsUpTo, callsIn}
 
 none-left : (most : ℕ) → callsUpTo most [] ≡ record { list = []; isCut = false }
 unfolding callsUpTo frontOf

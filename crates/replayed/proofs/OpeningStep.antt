@@ -1,8 +1,8 @@
 -- One piece of the opening: it is still not whole, or the region was answered and calls come, or none.
 -- Assumes nothing.
-use Prim.Native.Nat.{ℕ, _+_, _*_, _^_, _<_, _≤_}
+use Prim.Native.Nat.{ℕ, _*_, _^_, _<_, _≤_}
 use mathlib.Core.Path.{_≡_, refl, sym, ap, subst, _∙_}
-use mathlib.Core.Bool.{Bool, true, false, cond, _&&_}
+use mathlib.Core.Bool.{Bool, true, false}
 use mathlib.Core.List.{List, [], _∷_, _++_}
 use native.Mathlib.Nat.{le-refl}
 use native.Mathlib.Omega.{arith}
@@ -14,7 +14,6 @@ use Rattle.number.specs.Number.{Bytes, numberAt}
 use Rattle.number.proofs.Laws.{bytes-take, bytes-drop}
 use Rattle.creation.specs.Creation.{creation}
 use Rattle.frame.specs.Frame.{regionLengthSize, callHead, openingSize, openingRegion}
-use Rattle.frame.specs.Views.{callSize}
 use Rattle.frame.proofs.Frames.{size-short}
 use Rattle.frame.proofs.Theorems.{opening-size-before-more-input, opening-region-before-more-input, opening-size-at-least}
 use Rattle.bursar.specs.Run.{afterRun}
@@ -22,12 +21,12 @@ use Rattle.bursar.proofs.Theorems.{created-stands}
 use Rattle.run.specs.declared.Stage.the-variants.{Opening}
 use Rattle.run.specs.declared.State.{State}
 use Rattle.run.specs.declared.Fed.{Fed}
-use Rattle.replayed.specs.Replay.{ReadCalls, callsIn, Line, regionLine, cutLine, endLine, callLines, linesFrom, replayOf}
+use Rattle.replayed.specs.Replay.{callsIn, regionLine, cutLine, endLine, linesFrom, replayOf}
 use Rattle.run.specs.Views.{waits, openingAnswer, fedOpening, memoryFed}
 use Rattle.replayed.specs.Feeding.{Held, regionLeft}
 use Rattle.run.proofs.Laws.{opening-waits, opening-answered, opened-accepted, opened-refused}
 use Rattle.run.proofs.Pieces.{taken, at-hand, left, joined-before, Goes, on, whole, goes, takes-of, there-then, at-the-front, front-taken}
-use Rattle.replayed.proofs.Coming.{Opens, Judges, linesOf, Coming, opens, judges, over, Step}
+use Rattle.replayed.proofs.Coming.{Opens, linesOf, opens, judges, over, Step}
 
 -- ---- the lines of an input by its opening
 

@@ -1,6 +1,6 @@
 -- What a replay prints are the numbers of the bursar's run of its calls on its opening region, so the bursar's sentence holds of it.
 -- Assumes nothing.
-use Prim.Native.Nat.{ℕ, zero, suc, _+_, _^_, _<_, _≤_}
+use Prim.Native.Nat.{ℕ, zero, suc, _+_, _<_, _≤_}
 use mathlib.Core.Path.{_≡_, refl, sym, ap, subst, _∙_}
 use mathlib.Core.Bool.{Bool, true, false, cond}
 use mathlib.Core.List.{List, [], _∷_, _++_}
@@ -9,7 +9,6 @@ use native.Mathlib.Nat.{zero-add}
 use native.Mathlib.Omega.{arith}
 use borrow.Author.Tests.{le-leb, eqb-true}
 use lib.ListN.{length, drop}
-use Rattle.answer.specs.Each.{Each}
 use Rattle.answer.specs.Numbers.{accepted, accepts}
 use Rattle.number.specs.Number.{Bytes, highest, numberAt}
 use Rattle.number.proofs.Laws.{bytes-take, bytes-drop, read-below}

@@ -4,7 +4,7 @@ use Prim.Native.Nat.{ℕ, _*_, _^_, _<_}
 use mathlib.Core.Path.{_≡_, refl, sym, ap, _∙_}
 use mathlib.Core.Bool.{true, false}
 use mathlib.Core.List.{List, [], _∷_, _++_, append-nil}
-use mathlib.Core.Logic.{_⊎_, inl, inr, ⊎-elim}
+use mathlib.Core.Logic.{⊎-elim}
 use native.Mathlib.Nat.{eq-zero-or-pos}
 use native.Mathlib.Omega.{arith}
 use lib.ListN.{length, drop}
@@ -14,14 +14,13 @@ use Rattle.frame.specs.Frame.{callHead, frontOf}
 use Rattle.frame.specs.Views.{callSize}
 use Rattle.frame.proofs.Theorems.{Sized, short, long, past, there, sized, opening-size-short}
 use Rattle.bursar.specs.Run.{afterRun}
-use Rattle.run.specs.declared.Said.the-variants.{Cut, End}
 use Rattle.run.specs.declared.Fed.{Fed}
 use Rattle.replayed.specs.Replay.{callsIn, Line, cutLine, endLine, callLines, replayOf}
-use Rattle.run.specs.Views.{stopped, marked, fed, openingFed, frameFed}
-use Rattle.replayed.specs.Feeding.{lineOf, isEnd, Held, heldAtFirst, heldAfter, heldMarked, regionHeld, regionLeft, Says, feeds, feeds-last, marks, marks-last}
+use Rattle.run.specs.Views.{marked, fed, openingFed, frameFed}
+use Rattle.replayed.specs.Feeding.{lineOf, isEnd, Held, heldAtFirst, regionHeld, regionLeft, Says, feeds, feeds-last, marks, marks-last}
 use Rattle.run.proofs.Laws.{marked-opening, marked-between, marked-inside, marked-over, at-opening, at-calls, at-over}
 use Rattle.replayed.proofs.Cutting.{calls-none, calls-short}
-use Rattle.replayed.proofs.Coming.{Opens, Judges, linesOf, Coming, opens, judges, over, Step}
+use Rattle.replayed.proofs.Coming.{linesOf, Coming, opens, judges, over, Step}
 use Rattle.replayed.proofs.OpeningStep.{replay-cut, nothing-left, opening-step}
 use Rattle.replayed.proofs.CallStep.{call-step}
 

@@ -8,7 +8,6 @@ use lib.ListN.{length, drop}
 use Rattle.answer.specs.Numbers.{accepted, accepts}
 use Rattle.number.specs.Number.{Bytes}
 use Rattle.creation.specs.Creation.{creation, howOften}
-use Rattle.judge.specs.Judge.{Call}
 use Rattle.frame.specs.Frame.{openingSize, openingRegion}
 use Rattle.replayed.specs.Replay.{ReadCalls, callsIn, Line, regionLine, callLine, cutLine, endLine}
 

@@ -2,12 +2,12 @@
 -- Assumes nothing.
 use Prim.Native.Nat.{ℕ, _+_, _-_, _<_, _≤_, min}
 use mathlib.Core.Path.{_≡_, sym, ap, _∙_}
-use mathlib.Core.List.{List, [], _++_, append-assoc}
-use mathlib.Core.Logic.{_⊎_, ⊎-elim}
+use mathlib.Core.List.{List, _++_, append-assoc}
+use mathlib.Core.Logic.{⊎-elim}
 use native.Mathlib.Nat.{le-refl}
 use native.Mathlib.Omega.{arith}
 use lib.ListN.{length, take, drop, length-append, length-take, take-append-drop}
-use lib.Seq.{length-take-le, take-all, drop-length, take-append-seam}
+use lib.Seq.{length-take-le, take-all, take-append-seam}
 use Rattle.frame.proofs.Theorems.{le-or-lt}
 use Rattle.run.specs.declared.Stage.{Stage}
 use Rattle.run.specs.Views.{wantedOf, takenOf, atHand, memoryFed}
