@@ -25,12 +25,12 @@ use Rattle.replayed.proofs.OpeningStep.{replay-cut, nothing-left, openi
 use Rattle.replayed.proofs.CallStep.{call-step}
 
 -- a piece or the end mark is a step, or the last
-data Turn (left : List ℕ) (lines : List Line) (region : List ℕ) (r : Fed) (opening frame : List ℕ) : Type 0 where
+pub data Turn (left : List ℕ) (lines : List Line) (region : List ℕ) (r : Fed) (opening frame : List ℕ) : Type 0 where
   goes : Step left lines region r opening frame → Turn left lines region r opening frame
   ends : isEnd (r .said) ≡ true → lines ≡ lineOf (r .said) → region ≡ regionHeld (record { state = r .state; opening = opening; frame = frame })
       → Turn left lines region r opening frame
 
-feed-turn : (h : Held) (piece rest : List ℕ) {lines : List Line} {region : List ℕ} → Coming h (piece ++ rest) lines region
+pub feed-turn : (h : Held) (piece rest : List ℕ) {lines : List Line} {region : List ℕ} → Coming h (piece ++ rest) lines region
     → Turn (drop (fed (h .state) (h .opening) (h .frame) piece .used) piece ++ rest) lines region (fed (h .state) (h .opening) (h .frame) piece)
     (openingFed (h .state) (h .opening) (h .frame) piece) (frameFed (h .state) (h .frame) piece)
 feed-turn h piece rest (opens now at e f) =
@@ -75,7 +75,7 @@ module _ (held : List ℕ) (calls accepted : ℕ) where
     unfolding afterRun
     left-inside = rw (calls-short s some (not-whole s less))
 
-mark-turn : (h : Held) {lines : List Line} {region : List ℕ} → Coming h [] lines region → Turn [] lines region (marked (h .state)) (h .opening) (h .frame)
+pub mark-turn : (h : Held) {lines : List Line} {region : List ℕ} → Coming h [] lines region → Turn [] lines region (marked (h .state)) (h .opening) (h .frame)
 mark-turn h {lines} {region} (opens now at e f) =
     rw (marked-opening (h .state) (at .stage-is))
     (goes
@@ -134,7 +134,7 @@ told (marks h said last on more) lines region coming = goes-on said last (mark-t
 told (marks-last h off) lines region coming = is-last (mark-turn h coming) off
 
 module _ (input opening frame : List ℕ) (bytes : Bytes input) (small : length input < callHead * 2 ^ 64) where
-  all-coming : Coming (heldAtFirst opening frame) input (replayOf input) (regionLeft input)
+  pub all-coming : Coming (heldAtFirst opening frame) input (replayOf input) (regionLeft input)
   all-coming =
       opens []
       (record {
