@@ -7,11 +7,11 @@ use mathlib.Core.List.{List, _++_, append-assoc}
 use mathlib.Core.Logic.{_⊎_, inl, inr, ⊎-elim}
 use native.Mathlib.Nat.{eq-zero-or-pos}
 use native.Mathlib.Omega.{arith}
-use lib.ListN.{length, take, drop, length-append, length-drop}
-use lib.Seq.{take-append-le, drop-append-le, take-add}
+use lib.ListN.{length, take, drop, length-append}
+use lib.Seq.{take-add}
 use Rattle.number.specs.Number.{Bytes, number, numberAt}
 use Rattle.number.proofs.Laws.{number-there, number-not-there, read-below}
-use Rattle.part.proofs.Laws.{part-there}
+use Rattle.part.proofs.Laws.{part-there, part-before-more}
 use Rattle.frame.specs.declared.CallView.{CallView}
 use Rattle.frame.specs.declared.Front.the-variants.{Whole, Long, Short}
 use Rattle.frame.specs.Frame.{regionLengthSize, callHead, mostParts, openingSize, openingRegion, partIn, partsLength, wholeCall, frontOf}
@@ -24,9 +24,8 @@ le-or-lt a b = ⊎-elim (λ e. inl (omega arith)) (λ p. inr (omega arith)) (eq-
 -- bytes that lie before more input
 front : (s t : List ℕ) (at len : ℕ) → at + len ≤ length s → take len (drop at (s ++ t)) ≡ take len (drop at s)
 front s t at len h =
-    let inside : at ≤ length s = omega arith in
-    let fits : len ≤ length (drop at s) = simp length-drop (omega arith) in
-    rw (drop-append-le, take-append-le)
+    let longer : at + len ≤ length (s ++ t) = simp length-append (omega arith) in
+    sym (part-there (s ++ t) at len longer) ∙ part-before-more s t at len h ∙ part-there s at len h
 
 number-before-more : (width : ℕ) (s t : List ℕ) (at : ℕ) → at + width ≤ length s → numberAt width (s ++ t) at ≡ numberAt width s at
 number-before-more width s t at h =

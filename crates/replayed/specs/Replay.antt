@@ -17,6 +17,7 @@ pub record ReadCalls : Type 0 where
   pub list : List Call
   pub isCut : Bool
 
+-- with a call before them
 abbrev pub oneMore : Call → ReadCalls → ReadCalls
 oneMore call rest = record { list = call ∷ rest .list; isCut = rest .isCut }
 

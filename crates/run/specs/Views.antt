@@ -113,10 +113,12 @@ memoryFed stage got memory piece = paste memory (length (take got memory)) piece
 abbrev pub regionIn : State → List ℕ → List ℕ
 regionIn s opening = take (s .region) (drop regionLengthSize opening)
 
+-- a piece of the opening is fed
 unfoldable pub fedOpening : State → List ℕ → List ℕ → Fed
 unfolding takenOf atHand openingAnswer
 fedOpening s opening piece = openingAnswer s (takenOf Opening (take (s .got) opening) piece) (atHand Opening (s .got) opening piece)
 
+-- a piece of a call is fed
 unfoldable pub fedCall : State → List ℕ → List ℕ → List ℕ → Fed
 unfolding takenOf atHand callAnswer
 fedCall s opening frame piece =
@@ -129,29 +131,32 @@ openingCalled s opening frame piece =
     take regionLengthSize opening
     ++ (regionHeard (regionIn s opening) (atHand Calls (s .got) frame piece) ++ drop (s .region) (drop regionLengthSize opening))
 
--- what a piece leads to, by what is coming
+-- a piece is fed, by what is coming
 abbrev pub fedAt : Stage → State → List ℕ → List ℕ → List ℕ → Fed
 fedAt Opening s opening frame piece = fedOpening s opening piece
 fedAt Calls s opening frame piece = fedCall s opening frame piece
 fedAt Over s opening frame piece = stopped s 0 (End (s .accepted))
 
+-- a piece is fed to a run as it stands
 unfoldable pub fed : State → List ℕ → List ℕ → List ℕ → Fed
 fed s opening frame piece = fedAt (s .stage) s opening frame piece
 
--- the memory of the opening afterwards
+-- the memory of the opening afterwards, by what was coming
 abbrev pub openingFedAt : Stage → State → List ℕ → List ℕ → List ℕ → List ℕ
 openingFedAt Opening s opening frame piece = memoryFed Opening (s .got) opening piece
 openingFedAt Calls s opening frame piece = openingCalled s opening frame piece
 openingFedAt Over s opening frame piece = opening
 
+-- the memory of the opening after a piece
 unfoldable pub openingFed : State → List ℕ → List ℕ → List ℕ → List ℕ
 openingFed s opening frame piece = openingFedAt (s .stage) s opening frame piece
 
--- the memory of a call afterwards
+-- the memory of a call afterwards, by what was coming
 abbrev pub frameFedAt : Stage → State → List ℕ → List ℕ → List ℕ
 frameFedAt Opening s frame piece = frame
 frameFedAt Calls s frame piece = memoryFed Calls (s .got) frame piece
 frameFedAt Over s frame piece = frame
 
+-- the memory of a call after a piece
 unfoldable pub frameFed : State → List ℕ → List ℕ → List ℕ
 frameFed s frame piece = frameFedAt (s .stage) s frame piece

@@ -160,8 +160,8 @@ impl State {
         }
     }
 
-    // The input ended: what that means for the run. Then, and whatever is fed to a run that is over, it
-    // ends.
+    // The input ended: inside something that was coming it is cut, between calls the run ends. One that
+    // is over ends again.
     pub fn end(self) -> Fed
         ensures { λ r. ⌜ r ≡ marked self ⌝ }
     {
