@@ -90,19 +90,19 @@ unfolding allKeep
 each-keeps rule [] e = tt
 each-keeps rule (a ∷ l) e = let (here, after) = and-eq-true-iff (keeps rule a) _ .0 e in (here, each-keeps rule l after)
 
-apart : {A : Type 0} {a : A} → _≡_ {A = Option A} none (some a) → ⊥
+pub apart : {A : Type 0} {a : A} → _≡_ {A = Option A} none (some a) → ⊥
 apart e = let n : _≡_ {A = ℕ} 0 1 = cc in omega arith
 
 module _ (test : Action → Bool) where
-  found-here : (a : Action) (l : List Action) → test a ≡ true → firstThat test (a ∷ l) ≡ some a
+  pub found-here : (a : Action) (l : List Action) → test a ≡ true → firstThat test (a ∷ l) ≡ some a
   unfolding firstThat
   found-here a l e = rw (e, firstThat)
 
-  found-later : (a : Action) (l : List Action) → test a ≡ false → firstThat test (a ∷ l) ≡ firstThat test l
+  pub found-later : (a : Action) (l : List Action) → test a ≡ false → firstThat test (a ∷ l) ≡ firstThat test l
   unfolding firstThat
   found-later a l e = rw (e, firstThat)
 
-  none-found : firstThat test [] ≡ none
+  pub none-found : firstThat test [] ≡ none
   unfolding firstThat
   none-found = refl
 

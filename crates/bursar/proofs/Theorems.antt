@@ -20,7 +20,7 @@ use Rattle.limit.specs.Limit.{isLimit}
 use Rattle.limit.proofs.Taking.{Goes, on, anew}
 use Rattle.judge.specs.Judge.{Call, actionsOf, judged, regionAfter}
 use Rattle.judge.proofs.Theorems.{a-stored-region-is-not-refused-as-such}
-use Rattle.bursar.specs.Run.{Created, Slotted, afterRun, numbersOf, Fund, takenBy, takenWhere, taken}
+use Rattle.bursar.specs.Run.{Created, Slotted, ours, afterRun, numbersOf, Fund, takenBy, takenWhere, taken}
 use Rattle.bursar.specs.Limits.{regionActions, isLimitOf, isRecurringOf, firstThat, amountsIn, limitOf, recurringOf, resetAt, takenAt, Moves, stays, later, howMany, termsIn}
 use Rattle.bursar.proofs.Terms.{one-call-keeps-the-terms, neither, at-most-one}
 use Rattle.bursar.proofs.OneCall.{Stands, still-stands, Pair, speaks-as, each-keeps, found, takes, limit-goes, recurring-goes}
@@ -36,7 +36,7 @@ some-amounts (some a) amounts e = (a, refl, (let same : amountsOf a ≡ amounts 
 
 -- ---- what is left
 
-limits : Pair solLimit tokenLimit
+pub limits : Pair solLimit tokenLimit
 unfolding isToken
 limits = record { not-token = refl; not-gross = refl; token = refl }
 
@@ -49,8 +49,8 @@ unfolding isLimit
 token-is-limit = refl
 
 left-through : (fund : Fund) (calls : List Call) (region : List ℕ) → Stands region → (a : Action) → firstThat (isLimitOf fund) (regionActions region) ≡ some a
-    → (b : Action) × (firstThat (isLimitOf fund) (regionActions (afterRun region calls)) ≡ some b)
-    × (remaining (amountsOf b) + taken fund region calls ≡ remaining (amountsOf a))
+    → (b : Action) × (firstThat (isLimitOf fund) (regionActions (afterRun ours region calls)) ≡ some b)
+    × (remaining (amountsOf b) + taken fund ours region calls ≡ remaining (amountsOf a))
 unfolding afterRun takenWhere
 left-through fund [] region st a is = (a, is, (let z : remaining (amountsOf a) + 0 ≡ remaining (amountsOf a) = omega arith in z))
 left-through fund (call ∷ calls) region st a is =
@@ -58,12 +58,12 @@ left-through fund (call ∷ calls) region st a is =
     let (c, is-c, rest) = left-through fund calls (regionAfter region call) (still-stands region call st) b is-b in
     let head : cond (accepts (judged region call) && true) (takenBy fund call) 0 ≡ takes fund region call =
     ap (λ (x : Bool). cond x (takenBy fund call) 0) (and-true (accepts (judged region call))) in
-    (c, is-c, ap (λ (n : ℕ). remaining (amountsOf c) + (n + taken fund (regionAfter region call) calls)) head ∙ (let z : remaining (amountsOf c) + (takes fund region call + taken fund (regionAfter region call) calls) ≡ remaining (amountsOf a) = omega (arith, here, rest) in z))
+    (c, is-c, ap (λ (n : ℕ). remaining (amountsOf c) + (n + taken fund ours (regionAfter region call) calls)) head ∙ (let z : remaining (amountsOf c) + (takes fund region call + taken fund ours (regionAfter region call) calls) ≡ remaining (amountsOf a) = omega (arith, here, rest) in z))
 
 -- for the SolLimit, and for each mint's TokenLimit: what is left at the end and what accepted calls took are the opening amount
 pub what-is-left-and-what-was-taken-are-the-opening : (region : List ℕ) (calls : List Call) (fund : Fund) (opening : List ℕ)
     → Created region → limitOf fund region ≡ some opening
-    → (end : List ℕ) × (limitOf fund (afterRun region calls) ≡ some end) × (remaining end + taken fund region calls ≡ remaining opening)
+    → (end : List ℕ) × (limitOf fund (afterRun ours region calls) ≡ some end) × (remaining end + taken fund ours region calls ≡ remaining opening)
 unfolding limitOf
 what-is-left-and-what-was-taken-are-the-opening region calls fund opening created is =
     let (a, found, amounts) = some-amounts (firstThat (isLimitOf fund) (regionActions region)) opening is in
@@ -72,7 +72,7 @@ what-is-left-and-what-was-taken-are-the-opening region calls fund opening create
 
 -- ---- windows
 
-recurrings : Pair solRecurringLimit tokenRecurringLimit
+pub recurrings : Pair solRecurringLimit tokenRecurringLimit
 unfolding isToken
 recurrings = record { not-token = refl; not-gross = refl; token = refl }
 
@@ -139,8 +139,8 @@ module _ (fund : Fund) (slot : ℕ) where
   window-through : (calls : List Call) (region : List ℕ) → Stands region → Slotted calls → (a : Action)
       → firstThat (isRecurringOf fund) (regionActions region) ≡ some a
       → limit (amountsOf a) < highest → spent (amountsOf a) ≤ limit (amountsOf a)
-      → (cond (eqb (lastReset (amountsOf a)) slot) (spent (amountsOf a)) 0 + takenAt slot fund region calls ≤ limit (amountsOf a))
-      × (slot < lastReset (amountsOf a) → takenAt slot fund region calls ≡ 0)
+      → (cond (eqb (lastReset (amountsOf a)) slot) (spent (amountsOf a)) 0 + takenAt slot fund ours region calls ≤ limit (amountsOf a))
+      × (slot < lastReset (amountsOf a) → takenAt slot fund ours region calls ≡ 0)
   unfolding takenWhere
   window-through [] region st slots a is below within = (go (eqb (lastReset (amountsOf a)) slot), λ h. refl)
     where
@@ -152,7 +152,7 @@ module _ (fund : Fund) (slot : ℕ) where
       let b = went .after in
       let same = went .same-limit in
       let most = limit (amountsOf a) in
-      let total = takenAt slot fund (regionAfter region call) calls in
+      let total = takenAt slot fund ours (regionAfter region call) calls in
       let (here, past) = window-through calls (regionAfter region call) (still-stands region call st) (slots .1) b (went .there) (rw same below) (rw same (went .within)) in
       let one = carried slot (takes fund region call) total most (amountsOf a) (amountsOf b) (went .goes) within (subst (λ (n : ℕ). cond (eqb (lastReset (amountsOf b)) slot) (spent (amountsOf b)) 0 + total ≤ n) same here) past in
       subst (λ (n : ℕ). (cond (eqb (lastReset (amountsOf a)) slot) (spent (amountsOf a)) 0 + (n + total) ≤ most) × (slot < lastReset (amountsOf a) → n + total ≡ 0)) (sym (added region call b (went .there))) one
@@ -171,7 +171,7 @@ moves-once before after (anew moved n multiple sum) = later moved n multiple
 moves-through : (fund : Fund) (calls : List Call) (region : List ℕ) → Stands region → Slotted calls → (a : Action)
     → firstThat (isRecurringOf fund) (regionActions region) ≡ some a
     → limit (amountsOf a) < highest → spent (amountsOf a) ≤ limit (amountsOf a)
-    → (b : Action) × (firstThat (isRecurringOf fund) (regionActions (afterRun region calls)) ≡ some b)
+    → (b : Action) × (firstThat (isRecurringOf fund) (regionActions (afterRun ours region calls)) ≡ some b)
     × Moves (window (amountsOf a)) (lastReset (amountsOf a)) (lastReset (amountsOf b))
 unfolding afterRun
 moves-through fund [] region st slots a is below within = (a, is, stays refl)
@@ -204,7 +204,7 @@ nothing-spent region fund a (bytes, accepted) is =
 module _ (region : List ℕ) (calls : List Call) (fund : Fund) (opening : List ℕ) (created : Created region) (slots : Slotted calls)
     (is : recurringOf fund region ≡ some opening) (below : limit opening < highest) where
   -- for each recurring limit below 2^64 - 1, SOL's or a mint's: accepted calls that leave the same last reset take at most the limit
-  pub a-window-takes-at-most-its-limit : (slot : ℕ) → takenAt slot fund region calls ≤ limit opening
+  pub a-window-takes-at-most-its-limit : (slot : ℕ) → takenAt slot fund ours region calls ≤ limit opening
   unfolding recurringOf
   a-window-takes-at-most-its-limit slot =
       let (a, found-a, amounts) = some-amounts (firstThat (isRecurringOf fund) (regionActions region)) opening is in
@@ -213,7 +213,7 @@ module _ (region : List ℕ) (calls : List Call) (fund : Fund) (opening : List �
       omega (arith, all, same)
 
   -- and its last reset never falls: it stays, or moves to a later multiple of the window
-  pub the-last-reset-never-falls : (end : List ℕ) × (recurringOf fund (afterRun region calls) ≡ some end) × Moves (window opening) (lastReset opening) (lastReset end)
+  pub the-last-reset-never-falls : (end : List ℕ) × (recurringOf fund (afterRun ours region calls) ≡ some end) × Moves (window opening) (lastReset opening) (lastReset end)
   unfolding recurringOf
   the-last-reset-never-falls =
       let (a, found-a, amounts) = some-amounts (firstThat (isRecurringOf fund) (regionActions region)) opening is in
@@ -222,18 +222,18 @@ module _ (region : List ℕ) (calls : List Call) (fund : Fund) (opening : List �
 
 -- ---- the identity of an action through a run
 
-stands-through : (calls : List Call) (region : List ℕ) → Stands region → Stands (afterRun region calls)
+pub stands-through : (calls : List Call) (region : List ℕ) → Stands region → Stands (afterRun ours region calls)
 unfolding afterRun
 stands-through [] region st = st
 stands-through (call ∷ calls) region st = stands-through calls (regionAfter region call) (still-stands region call st)
 
 -- the stored form is kept by every run
-pub a-run-keeps-the-stored-form : (region : List ℕ) (calls : List Call) → Created region → (l : List Action) × (storedActions (afterRun region calls) ≡ given l)
+pub a-run-keeps-the-stored-form : (region : List ℕ) (calls : List Call) → Created region → (l : List Action) × (storedActions (afterRun ours region calls) ≡ given l)
 a-run-keeps-the-stored-form region calls created =
     let st = stands-through calls region (created-stands region created) in
     (st .actions, st .stored)
 
-never-15 : (calls : List Call) (region : List ℕ) → Stands region → howOften badRegion (numbersOf region calls) ≡ 0
+never-15 : (calls : List Call) (region : List ℕ) → Stands region → howOften badRegion (numbersOf ours region calls) ≡ 0
 unfolding numbersOf howOften
 never-15 [] region st = refl
 never-15 (call ∷ calls) region st =
@@ -241,28 +241,28 @@ never-15 (call ∷ calls) region st =
     ap₂ (λ (b : Bool) (n : ℕ). cond b 1 0 + n) (ne-eqb (judged region call .number) 15 (λ e. omega arith)) (never-15 calls (regionAfter region call) (still-stands region call st))
 
 -- so a run from creation on is never answered with 15
-pub a-run-is-never-answered-with-15 : (region : List ℕ) (calls : List Call) → Created region → howOften badRegion (numbersOf region calls) ≡ 0
+pub a-run-is-never-answered-with-15 : (region : List ℕ) (calls : List Call) → Created region → howOften badRegion (numbersOf ours region calls) ≡ 0
 a-run-is-never-answered-with-15 region calls created = never-15 calls region (created-stands region created)
 
-terms-through : (calls : List Call) (region : List ℕ) → Stands region → termsIn (afterRun region calls) ≡ termsIn region
+terms-through : (calls : List Call) (region : List ℕ) → Stands region → termsIn (afterRun ours region calls) ≡ termsIn region
 unfolding afterRun
 terms-through [] region st = refl
 terms-through (call ∷ calls) region st = terms-through calls (regionAfter region call) (still-stands region call st) ∙ one-call-keeps-the-terms region call st
 
 -- no run changes types, expiries, lengths, mints, limits of windows, windows, programs, the order or the number of actions
-pub a-run-keeps-the-terms : (region : List ℕ) (calls : List Call) → Created region → termsIn (afterRun region calls) ≡ termsIn region
+pub a-run-keeps-the-terms : (region : List ℕ) (calls : List Call) → Created region → termsIn (afterRun ours region calls) ≡ termsIn region
 a-run-keeps-the-terms region calls created = terms-through calls region (created-stands region created)
 
 -- the SolLimit is one, and so is the TokenLimit of each mint; so are the recurring limits
 pub a-fund-has-one-limit : (region : List ℕ) (calls : List Call) → Created region → (fund : Fund)
-    → (howMany (isLimitOf fund) (regionActions (afterRun region calls)) ≤ 1) × (howMany (isRecurringOf fund) (regionActions (afterRun region calls)) ≤ 1)
+    → (howMany (isLimitOf fund) (regionActions (afterRun ours region calls)) ≤ 1) × (howMany (isRecurringOf fund) (regionActions (afterRun ours region calls)) ≤ 1)
 unfolding solRepeats
 a-fund-has-one-limit region calls created fund =
     let st = stands-through calls region (created-stands region created) in
-    let form = stored-is-formed (afterRun region calls) (st .actions) (st .stored) .1 in
+    let form = stored-is-formed (afterRun ours region calls) (st .actions) (st .stored) .1 in
     let (first-two, third) = neither _ _ (form .one-of-each-sol-type) in
     let (first, second) = neither _ _ first-two in
-    let is : regionActions (afterRun region calls) ≡ st .actions = ap actionsOf (st .stored) in (
+    let is : regionActions (afterRun ours region calls) ≡ st .actions = ap actionsOf (st .stored) in (
       subst (λ (l : List Action). howMany (isLimitOf fund) l ≤ 1) (sym is) (at-most-one limits fund (st .actions) form (ltb-false _ _ first)),
       subst (λ (l : List Action). howMany (isRecurringOf fund) l ≤ 1) (sym is) (at-most-one recurrings fund (st .actions) form (ltb-false _ _ second)),
     )

@@ -2,17 +2,16 @@
 -- Assumes nothing.
 use Prim.Native.Nat.{ℕ}
 use mathlib.Core.List.{List, [], _∷_, _++_}
-use lib.ListN.{replicate}
 use Rattle.answer.specs.NamedValue.{NamedValue}
 use Rattle.answer.specs.Numbers.{accepted, actionSolLimitExceeded, actionSolRecurringLimitExceeded}
 use Rattle.number.specs.Number.{bytesOf}
-use Rattle.action.specs.Action.{solLimit, solRecurringLimit, tokenLimit}
+use Rattle.action.specs.Action.{solLimit, solRecurringLimit}
 use Rattle.region.specs.Region.{glue}
-use Rattle.creation.specs.Creation.{creation}
 use Rattle.judge.specs.Judge.{Call}
 use Rattle.judge.specs.NamedValues.{spending}
-use Rattle.bursar.specs.Run.{sol, afterRun, numbersOf, taken}
-use Rattle.bursar.specs.Limits.{takenAt}
+use Rattle.bursar.specs.Run.{ours, afterRun, numbersOf, sol}
+use Rattle.bursar.specs.Limits.{recurringOf, takenAt}
+use Rattle.bursar.specs.Judges.{sums, limitIn}
 
 -- a SolLimit with so much left, and a SolRecurringLimit of 50 in 10 slots: what is spent, and the last reset
 unfoldable pub holding : ℕ → ℕ → ℕ → List ℕ
@@ -30,20 +29,14 @@ morning = spending 5 30 ∷ spending 5 30 ∷ spending 25 40 ∷ spending 3 5 �
 unfoldable pub exampleValues : List NamedValue
 unfolding holding morning
 exampleValues =
-    record { gives = creation (holding 100 0 0) .number ∷ []; named = accepted ∷ [] }
-    ∷ record {
-      gives = numbersOf (holding 100 0 0) morning;
+    record {
+      gives = numbersOf ours (holding 100 0 0) morning;
       named = accepted ∷ actionSolRecurringLimitExceeded ∷ accepted ∷ accepted ∷ actionSolLimitExceeded ∷ [];
     }
-    ∷ record { gives = afterRun (holding 100 0 0) morning; named = holding 25 45 20 }
-    ∷ record { gives = taken sol (holding 100 0 0) morning ∷ []; named = 75 ∷ [] }
-    ∷ record { gives = takenAt 0 sol (holding 100 0 0) morning ∷ takenAt 20 sol (holding 100 0 0) morning ∷ []; named = 30 ∷ 45 ∷ [] }
+    ∷ record { gives = afterRun ours (holding 100 0 0) morning; named = holding 25 45 20 }
+    -- the opening amount, what is left, what was taken
+    ∷ record { gives = sums sol ours (holding 100 0 0) morning; named = 100 ∷ 25 ∷ 75 ∷ [] }
+    -- the limit of the window, what was taken with the last reset at 0 and at 20
+    ∷ record { gives = limitIn (recurringOf sol (holding 100 0 0)); named = 50 ∷ [] }
+    ∷ record { gives = takenAt 0 sol ours (holding 100 0 0) morning ∷ takenAt 20 sol ours (holding 100 0 0) morning ∷ []; named = 30 ∷ 45 ∷ [] }
     ∷ []
-
--- TokenLimits of two mints, with 5 left of one and 7 of the other
-unfoldable pub twoMints : List ℕ
-twoMints =
-    glue
-    (record { kind = tokenLimit; expires = 0; payload = replicate 32 1 ++ bytesOf 8 5 }
-    ∷ record { kind = tokenLimit; expires = 0; payload = replicate 32 2 ++ bytesOf 8 7 }
-    ∷ [])

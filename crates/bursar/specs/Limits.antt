@@ -9,11 +9,11 @@ use lib.Dec.{eqb}
 use lib.ListN.{length, take}
 use Rattle.key.specs.Key.{sameKey}
 use Rattle.action.specs.Action.{Action, solLimit, tokenLimit, solRecurringLimit, tokenRecurringLimit}
-use Rattle.action.specs.Fields.{isRecurring, keyOf, mintLength, amountsOf, limit, window, lastReset}
+use Rattle.action.specs.Fields.{isToken, isRecurring, keyOf, mintLength, amountsOf, limit, window, lastReset}
 use Rattle.creation.specs.Creation.{storedActions}
 use Rattle.limit.specs.Limit.{isLimit}
 use Rattle.judge.specs.Judge.{Call, actionsOf}
-use Rattle.bursar.specs.Run.{Fund, sol, tokens, takenWhere}
+use Rattle.bursar.specs.Run.{Judge, Fund, sol, tokens, takenWhere}
 
 -- the actions of a region
 abbrev pub regionActions : List ℕ → List Action
@@ -23,6 +23,10 @@ regionActions region = actionsOf (storedActions region)
 unfoldable pub speaksOf : ℕ → ℕ → Fund → Action → Bool
 speaksOf solType tokenType sol a = eqb (a .kind) solType
 speaksOf solType tokenType (tokens mint) a = eqb (a .kind) tokenType && sameKey (keyOf a) mint
+
+-- what an action speaks of, where it is a limit: the tokens of its mint, or SOL
+unfoldable pub fundOf : Action → Fund
+fundOf a = cond (isToken (a .kind)) (tokens (keyOf a)) sol
 
 -- the SolLimit, or the TokenLimit of a mint
 abbrev pub isLimitOf : Fund → Action → Bool
@@ -61,8 +65,8 @@ resetAt slot none = false
 resetAt slot (some amounts) = eqb (lastReset amounts) slot
 
 -- what the accepted calls of a run take from a fund that leave the last reset of its recurring limit at a slot
-abbrev pub takenAt : ℕ → Fund → List ℕ → List Call → ℕ
-takenAt slot fund region calls = takenWhere (λ (after : List ℕ). resetAt slot (recurringOf fund after)) fund region calls
+abbrev pub takenAt : ℕ → Fund → Judge → List ℕ → List Call → ℕ
+takenAt slot fund judge region calls = takenWhere (λ (after : List ℕ). resetAt slot (recurringOf fund after)) fund judge region calls
 
 -- a last reset stays, or moves to a later multiple of the window
 pub data Moves (window before after : ℕ) : Type 0 where

@@ -1,9 +1,10 @@
--- A run of judged calls on one region, and what its accepted calls take.
+-- A run of calls on one region by any judge, and what its accepted calls take.
 -- Assumes nothing.
-use Prim.Native.Nat.{ℕ, _+_, _≤_}
+use Prim.Native.Nat.{ℕ, suc, _+_, _≤_}
 use mathlib.Core.Path.{_≡_}
 use mathlib.Core.Bool.{Bool, true, cond, _&&_}
 use mathlib.Core.List.{List, [], _∷_}
+use Rattle.answer.specs.declared.Answer.{Answer}
 use Rattle.answer.specs.Each.{Each}
 use Rattle.answer.specs.Numbers.{accepts}
 use Rattle.number.specs.Number.{Bytes, highest}
@@ -19,15 +20,32 @@ Created region = Bytes region × (accepts (creation region) ≡ true)
 abbrev pub Slotted : List Call → Type 0
 Slotted calls = Each (λ (call : Call). call .slot ≤ highest) calls
 
+-- what a judge says of a call: its answer, and the region afterwards
+pub record Judgment : Type 0 where
+  pub answer : Answer
+  pub region : List ℕ
+
+-- any judge: what it says of a region and a call, after so many calls
+abbrev pub Judge : Type 0
+Judge = ℕ → List ℕ → Call → Judgment
+
+-- a judge when one more call has come
+abbrev pub afterOne : Judge → Judge
+afterOne judge n = judge (suc n)
+
+-- ours: the judged call, whatever came before
+abbrev pub ours : Judge
+ours n region call = record { answer = judged region call; region = regionAfter region call }
+
 -- the region after a run: each call is judged on what the one before it left
-unfoldable pub afterRun : List ℕ → List Call → List ℕ
-afterRun region [] = region
-afterRun region (call ∷ calls) = afterRun (regionAfter region call) calls
+unfoldable pub afterRun : Judge → List ℕ → List Call → List ℕ
+afterRun judge region [] = region
+afterRun judge region (call ∷ calls) = afterRun (afterOne judge) (judge 0 region call .region) calls
 
 -- the number that each call of a run is answered with
-unfoldable pub numbersOf : List ℕ → List Call → List ℕ
-numbersOf region [] = []
-numbersOf region (call ∷ calls) = judged region call .number ∷ numbersOf (regionAfter region call) calls
+unfoldable pub numbersOf : Judge → List ℕ → List Call → List ℕ
+numbersOf judge region [] = []
+numbersOf judge region (call ∷ calls) = judge 0 region call .answer .number ∷ numbersOf (afterOne judge) (judge 0 region call .region) calls
 
 -- what limits speak of: SOL, or the tokens of a mint
 pub data Fund : Type 0 where
@@ -40,12 +58,12 @@ takenBy sol call = decrease (call .lamportsBefore) (call .lamportsAfter)
 takenBy (tokens mint) call = decreaseOf (call .vault) (recordsBefore call) (recordsAfter call) mint
 
 -- what the accepted calls of a run take from a fund, of those that leave a region that passes a test
-unfoldable pub takenWhere : (List ℕ → Bool) → Fund → List ℕ → List Call → ℕ
-takenWhere test fund region [] = 0
-takenWhere test fund region (call ∷ calls) =
-    cond (accepts (judged region call) && test (regionAfter region call)) (takenBy fund call) 0
-    + takenWhere test fund (regionAfter region call) calls
+unfoldable pub takenWhere : (List ℕ → Bool) → Fund → Judge → List ℕ → List Call → ℕ
+takenWhere test fund judge region [] = 0
+takenWhere test fund judge region (call ∷ calls) =
+    let said = judge 0 region call in
+    cond (accepts (said .answer) && test (said .region)) (takenBy fund call) 0 + takenWhere test fund (afterOne judge) (said .region) calls
 
 -- what all accepted calls of a run take from a fund
-abbrev pub taken : Fund → List ℕ → List Call → ℕ
-taken fund region calls = takenWhere (λ (after : List ℕ). true) fund region calls
+abbrev pub taken : Fund → Judge → List ℕ → List Call → ℕ
+taken fund judge region calls = takenWhere (λ (after : List ℕ). true) fund judge region calls

@@ -17,16 +17,17 @@ entryNumbers (e ∷ es) = e .program ∷ e .accounts .start ∷ e .accounts .len
 unfoldable pub read : List ℕ → List ℕ
 read bytes = reading bytes .answer .number ∷ reading bytes .consumed ∷ entryNumbers (entriesIn (reading bytes .entries))
 
+-- one instruction, and a byte that is not its own
+abbrev pub c2 : List ℕ
+c2 = 0x01 ∷ 0x02 ∷ 0x01 ∷ 0x05 ∷ 0x02 ∷ 0x00 ∷ 0xaa ∷ 0xbb ∷ 0xcc ∷ []
+
 unfoldable pub namedValues : List NamedValue
 unfolding entryNumbers read
 namedValues =
     -- C1: no instruction consumes one byte
     record { gives = read (0x00 ∷ []); named = accepted ∷ 1 ∷ [] }
-    -- C2: one instruction, and a byte that is not its own
-    ∷ record {
-      gives = read (0x01 ∷ 0x02 ∷ 0x01 ∷ 0x05 ∷ 0x02 ∷ 0x00 ∷ 0xaa ∷ 0xbb ∷ 0xcc ∷ []);
-      named = accepted ∷ 8 ∷ 2 ∷ 3 ∷ 1 ∷ 6 ∷ 2 ∷ [];
-    }
+    -- C2: one instruction consumes 8 bytes of 9
+    ∷ record { gives = read c2; named = accepted ∷ 8 ∷ 2 ∷ 3 ∷ 1 ∷ 6 ∷ 2 ∷ [] }
     -- C3: seventeen instructions are too many
     ∷ record { gives = read (0x11 ∷ []); named = invalidInstructionData ∷ 0 ∷ [] }
     ∷ []

@@ -30,7 +30,7 @@ both : (vs ws : List NamedValue) → AsNamed vs → AsNamed ws → AsNamed (vs +
 both [] ws a b = b
 both (v ∷ vs) ws a b = (a .0, both vs ws (a .1) b)
 
-calls-as-named : AsNamed callValues
+pub calls-as-named : AsNamed callValues
 unfolding callValues one left recurring called spending outcome judged regionAfter steps soundness rules charged amountFor recordsBefore recordsAfter programsAnswer allFrozen classAnswer ofClass isSol ruleAnswer breaks above base windowOver refusalOf settled changeOf liveChange isLimit spentChange changed storedActions inStoredForm formOf allKeep keeps bothLists solRepeats howOften mintRepeats mintAgain isToken isRecurring keyOf amountsOf isListed expired cut first headerDataLength dataLength sizeAmong glue glueOne number bytesOf numberAt cappedSum flooredDifference withNumberAt highest firstRefusal sameKey sameBytes cutTable cutRecords firstRecord balance mostInstructions byte front decodeOne decodeEach decode
 calls-as-named = (refl, (refl, (refl, (refl, (refl, (refl, (refl, (refl, (refl, (refl, (refl, (refl, (refl, tt)))))))))))))
 

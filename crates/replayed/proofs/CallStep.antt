@@ -20,7 +20,7 @@ use Rattle.frame.proofs.Theorems.{Sized, short, long, past, there, sized, front
 use Rattle.framed.specs.Framed.{callIn}
 use Rattle.framed.specs.Views.{regionHeard}
 use Rattle.framed.proofs.Laws.{region-judged, region-too-long, region-waits, call-before-more-input}
-use Rattle.bursar.specs.Run.{afterRun}
+use Rattle.bursar.specs.Run.{ours, afterRun}
 use Rattle.bursar.proofs.OneCall.{still-stands, as-long}
 use Rattle.run.specs.declared.Stage.the-variants.{Calls}
 use Rattle.run.specs.declared.State.{State}
@@ -41,7 +41,7 @@ module _ (held : List ℕ) (calls accepted : ℕ) (s t : List ℕ) (size : lengt
   unfolding callLines
   lines-long front = rw (calls-long (s ++ t) (front-before-more-input s t (rw size (le-refl _)) ∙ front))
 
-  pub left-long : frontOf s ≡ Long → afterRun held (callsIn (s ++ t) .list) ≡ held
+  pub left-long : frontOf s ≡ Long → afterRun ours held (callsIn (s ++ t) .list) ≡ held
   unfolding afterRun
   left-long front = rw (calls-long (s ++ t) (front-before-more-input s t (rw size (le-refl _)) ∙ front))
 
@@ -60,7 +60,7 @@ module _ (held : List ℕ) (calls accepted : ℕ) (s t : List ℕ) (size : lengt
     unfolding callLines
     lines-call = rw calls-are
 
-    pub left-call : afterRun held (callsIn (s ++ t) .list) ≡ afterRun (regionAfter held (callIn s c)) (callsIn t .list)
+    pub left-call : afterRun ours held (callsIn (s ++ t) .list) ≡ afterRun ours (regionAfter held (callIn s c)) (callsIn t .list)
     unfolding afterRun
     left-call = rw calls-are
 
@@ -104,7 +104,7 @@ module _ (h : Held) (piece rest now region : List ℕ) (at : Judges h (piece ++ 
   lines = linesOf region (state .calls) (state .accepted) (now ++ (piece ++ rest))
 
   abbrev in-the-end : List ℕ
-  in-the-end = afterRun region (callsIn (now ++ (piece ++ rest)) .list)
+  in-the-end = afterRun ours region (callsIn (now ++ (piece ++ rest)) .list)
 
   abbrev StepTo : Fed → List ℕ → Type 0
   StepTo r region′ = Step (drop (r .used) piece ++ rest) lines in-the-end r (with-region region′) frame

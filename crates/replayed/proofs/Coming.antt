@@ -8,7 +8,7 @@ use lib.ListN.{length, take}
 use Rattle.number.specs.Number.{Bytes}
 use Rattle.frame.specs.Frame.{regionLengthSize, callHead, openingSize}
 use Rattle.frame.specs.Views.{callSize}
-use Rattle.bursar.specs.Run.{afterRun}
+use Rattle.bursar.specs.Run.{ours, afterRun}
 use Rattle.bursar.proofs.OneCall.{Stands}
 use Rattle.run.specs.declared.Stage.the-variants.{Opening, Calls, Over}
 use Rattle.run.specs.declared.Fed.{Fed}
@@ -47,7 +47,7 @@ linesOf held calls accepted s = callLines held calls accepted (callsIn s .isCut)
 pub data Coming (h : Held) (left : List ℕ) (lines : List Line) (region : List ℕ) : Type 0 where
   opens : (there : List ℕ) → Opens h left there → lines ≡ replayOf (there ++ left) → region ≡ regionLeft (there ++ left) → Coming h left lines region
   judges : (there held : List ℕ) → Judges h left there held → lines ≡ linesOf held (h .state .calls) (h .state .accepted) (there ++ left)
-      → region ≡ afterRun held (callsIn (there ++ left) .list) → Coming h left lines region
+      → region ≡ afterRun ours held (callsIn (there ++ left) .list) → Coming h left lines region
   over : h .state .stage ≡ Over → lines ≡ endLine (h .state .accepted) ∷ [] → region ≡ regionHeld h → Coming h left lines region
 
 -- a piece, or the end mark, that is not the last: a line of those to come, and the rest still to come

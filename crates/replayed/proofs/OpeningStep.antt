@@ -16,7 +16,7 @@ use Rattle.creation.specs.Creation.{creation}
 use Rattle.frame.specs.Frame.{regionLengthSize, callHead, openingSize, openingRegion}
 use Rattle.frame.proofs.Frames.{size-short}
 use Rattle.frame.proofs.Theorems.{opening-size-before-more-input, opening-region-before-more-input, opening-size-at-least}
-use Rattle.bursar.specs.Run.{afterRun}
+use Rattle.bursar.specs.Run.{ours, afterRun}
 use Rattle.bursar.proofs.Theorems.{created-stands}
 use Rattle.run.specs.declared.Stage.the-variants.{Opening}
 use Rattle.run.specs.declared.State.{State}
@@ -70,7 +70,7 @@ module _ (s t : List ℕ) (size : length s ≡ openingSize s) where
     unfolding linesFrom
     replay-refused no′ = rw replay-there (rw (← is, no′))
 
-    pub left-accepted : accepts (creation held) ≡ true → regionLeft (s ++ t) ≡ afterRun held (callsIn t .list)
+    pub left-accepted : accepts (creation held) ≡ true → regionLeft (s ++ t) ≡ afterRun ours held (callsIn t .list)
     unfolding regionLeft
     left-accepted yes′ = rw (le-leb _ _ there, same-region, ← is, yes′, behind)
 

@@ -13,7 +13,7 @@ use Rattle.frame.specs.declared.Front.the-variants.{Short}
 use Rattle.frame.specs.Frame.{callHead, frontOf}
 use Rattle.frame.specs.Views.{callSize}
 use Rattle.frame.proofs.Theorems.{Sized, short, long, past, there, sized, opening-size-short}
-use Rattle.bursar.specs.Run.{afterRun}
+use Rattle.bursar.specs.Run.{ours, afterRun}
 use Rattle.run.specs.declared.Fed.{Fed}
 use Rattle.replayed.specs.Replay.{callsIn, Line, cutLine, endLine, callLines, replayOf}
 use Rattle.run.specs.Views.{marked, fed, openingFed, frameFed}
@@ -62,7 +62,7 @@ module _ (held : List ℕ) (calls accepted : ℕ) where
   unfolding callLines
   lines-none = rw calls-none
 
-  left-none : afterRun held (callsIn [] .list) ≡ held
+  left-none : afterRun ours held (callsIn [] .list) ≡ held
   unfolding afterRun
   left-none = rw calls-none
 
@@ -71,7 +71,7 @@ module _ (held : List ℕ) (calls accepted : ℕ) where
     unfolding callLines
     lines-inside = rw (calls-short s some (not-whole s less))
 
-    left-inside : afterRun held (callsIn s .list) ≡ held
+    left-inside : afterRun ours held (callsIn s .list) ≡ held
     unfolding afterRun
     left-inside = rw (calls-short s some (not-whole s less))
 

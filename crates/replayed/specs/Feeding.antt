@@ -9,7 +9,7 @@ use lib.ListN.{length, drop}
 use Rattle.answer.specs.Numbers.{accepts}
 use Rattle.creation.specs.Creation.{creation}
 use Rattle.frame.specs.Frame.{openingSize, openingRegion}
-use Rattle.bursar.specs.Run.{afterRun}
+use Rattle.bursar.specs.Run.{ours, afterRun}
 use Rattle.run.specs.declared.State.{State}
 use Rattle.run.specs.declared.Said.{Said}
 use Rattle.run.specs.declared.Said.the-variants.{More, Region, Call, Cut, End}
@@ -63,7 +63,7 @@ regionHeld h = regionIn (h .state) (h .opening)
 unfoldable pub regionLeft : List ℕ → List ℕ
 regionLeft s =
     cond (leb (openingSize s) (length s) && accepts (creation (openingRegion s)))
-    (afterRun (openingRegion s) (callsIn (drop (openingSize s) s) .list))
+    (afterRun ours (openingRegion s) (callsIn (drop (openingSize s) s) .list))
     []
 
 -- fed what is left of an input in some pieces, and the end mark behind the last, a run says some lines up to its end, and is then as it is last held:
