@@ -12,13 +12,13 @@ use lib.ListN.{length, length-take}
 use Rattle.answer.specs.Each.{Each}
 use Rattle.key.proofs.Laws.{same-key-refl}
 use Rattle.action.specs.Action.{Action}
-use Rattle.action.specs.Fields.{isToken, isRecurring, keyOf, amountsOf}
+use Rattle.action.specs.Fields.{isToken, isRecurring, keyOf}
 use Rattle.action.proofs.Regular.{Regular, mint-there}
 use Rattle.creation.proofs.Theorems.{stored-is-regular}
 use Rattle.limit.specs.Limit.{isLimit}
 use Rattle.judge.specs.Judge.{Call, actionsOf}
 use Rattle.bursar.specs.Run.{Created, ours, afterRun, Fund, sol, tokens}
-use Rattle.bursar.specs.Limits.{regionActions, speaksOf, fundOf, isLimitOf, isRecurringOf, firstThat, howMany, amountsIn, limitOf, recurringOf}
+use Rattle.bursar.specs.Limits.{regionActions, speaksOf, fundOf, isLimitOf, isRecurringOf, firstThat, howMany, amountsIn, limitOf, recurringOf, IsNotLeftOut}
 use Rattle.bursar.proofs.OneCall.{Pair, found-here, found-later, none-found, apart}
 use Rattle.bursar.proofs.Theorems.{created-stands, stands-through, limits, recurrings, a-fund-has-one-limit}
 
@@ -87,9 +87,7 @@ module _ (region : List ℕ) (calls : List Call) (created : Created region) wher
   First speaks a = speaks (fundOf a) a ≡ true → firstThat (speaks (fundOf a)) (regionActions After) ≡ some a
 
   -- every action of type 1 or 4 is the limit of its fund, and every one of type 2 or 5 its recurring limit
-  pub no-limit-is-left-out
-      : Each (λ (a : Action). (isLimit (a .kind) ≡ true → limitOf (fundOf a) After ≡ some (amountsOf a))
-      × (isRecurring (a .kind) ≡ true → recurringOf (fundOf a) After ≡ some (amountsOf a))) (regionActions After)
+  pub no-limit-is-left-out : Each (IsNotLeftOut After) (regionActions After)
   unfolding limitOf recurringOf isLimit isRecurring
   no-limit-is-left-out =
       let st = stands-through calls region (created-stands region created) in

@@ -59,6 +59,12 @@ unfoldable pub recurringOf : Fund → List ℕ → Option (List ℕ)
 unfolding firstThat
 recurringOf fund region = amountsIn (firstThat (isRecurringOf fund) (regionActions region))
 
+-- an action is not left out: of type 1 or 4 it is the limit of its fund, of type 2 or 5 its recurring limit
+abbrev pub IsNotLeftOut : List ℕ → Action → Type 0
+IsNotLeftOut region a =
+    (isLimit (a .kind) ≡ true → limitOf (fundOf a) region ≡ some (amountsOf a))
+    × (isRecurring (a .kind) ≡ true → recurringOf (fundOf a) region ≡ some (amountsOf a))
+
 -- whether a recurring limit was last reset at a slot
 abbrev pub resetAt : ℕ → Option (List ℕ) → Bool
 resetAt slot none = false
