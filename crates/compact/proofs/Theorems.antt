@@ -6,7 +6,7 @@ use mathlib.Core.Bool.{true}
 use mathlib.Core.List.{List, _++_}
 use mathlib.Core.Option.{none, some, Option·some-injective}
 use native.Mathlib.Omega.{arith}
-use lib.ListN.{length, take}
+use lib.ListN.{length, take, length-append}
 use Rattle.answer.specs.Numbers.{answer, accepts, accepted}
 use Rattle.answer.specs.Outcome.{one-outcome}
 use Rattle.number.specs.Number.{Bytes}
@@ -15,6 +15,7 @@ use Rattle.compact.specs.Compact.{Instruction, Writable, BeginsWithAList
 use Rattle.compact.specs.Entries.{listOf}
 use Rattle.compact.specs.Views.{entriesFrom, entriesOf, reading}
 use Rattle.compact.proofs.Format.{one-extends, each-extends, needs-all, decode-count}
+use Rattle.compact.proofs.Places.{encoded-means}
 use Rattle.compact.proofs.Lists.{decoded, decode-encoded, short, encoded-again, decoded-writable, each-bytes, reading-encoded, accepted-begins}
 
 pub decode-encode : (is : List Instruction) (rest : List ℕ) → Writable is → decode (encode is ++ rest) ≡ some (record { value = is; rest = rest })
@@ -44,6 +45,13 @@ reading-what-was-encoded is rest h = reading-encoded is rest (h .few) (short is 
 
 pub what-reading-accepts-begins-with-a-list : (bytes : List ℕ) → Bytes bytes → accepts (reading bytes .answer) ≡ true → BeginsWithAList bytes
 what-reading-accepts-begins-with-a-list = accepted-begins
+
+-- the ranges that reading answers with name the bytes of the list that they stand for, and all but the rest is consumed
+pub what-reading-answers-with-means-the-decoded-list : (bytes : List ℕ) (r : Read (List Instruction)) → Bytes bytes → decode bytes ≡ some r
+    → (listOf bytes (reading bytes .entries) ≡ r .value) × (reading bytes .consumed + length (r .rest) ≡ length bytes)
+what-reading-answers-with-means-the-decoded-list bytes r hb h =
+    rw (← (encode-decode bytes r hb h), reading-what-was-encoded (r .value) (r .rest) (what-was-decoded-is-writable bytes r hb h))
+    (encoded-means (r .value) (r .rest), sym (length-append (encode (r .value)) (r .rest)))
 
 -- whatever meets the contract of reading gives one list and one count of bytes consumed
 pub reading-determines-the-list-and-the-count : (bytes : List ℕ) (p q : ParsedInstructions) → p ≡ reading bytes → q ≡ reading bytes

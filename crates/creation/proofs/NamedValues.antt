@@ -13,4 +13,4 @@ use Rattle.creation.specs.NamedValues.{namedValues}
 
 pub as-named : AsNamed namedValues
 unfolding namedValues creation cut first headerDataLength dataLength sizeAmong glue number bytesOf numberAt formOf firstRefusal allKeep keeps bothLists solRepeats howOften mintRepeats mintAgain isToken isRecurring keyOf amountsOf sameKey sameBytes
-as-named = (refl, (refl, (refl, (refl, (refl, (refl, tt))))))
+as-named = (refl, (refl, (refl, (refl, (refl, (refl, (refl, (refl, (refl, (refl, (refl, tt)))))))))))

@@ -1,7 +1,7 @@
 -- The named values of creation, A1 to A5.
 -- Assumes nothing.
-use Prim.Native.Nat.{ℕ}
-use mathlib.Core.List.{List, [], _∷_}
+use Prim.Native.Nat.{ℕ, zero, suc}
+use mathlib.Core.List.{List, [], _∷_, _++_}
 use lib.ListN.{length, take, replicate}
 use Rattle.answer.specs.NamedValue.{NamedValue}
 use Rattle.answer.specs.Numbers.{accepted, actionBufferInvalid, actionWhitelistBlacklistConflict}
@@ -10,33 +10,82 @@ use Rattle.action.specs.Action.{Action, solLimit, programWhitelist, programBlac
 use Rattle.region.specs.Region.{glue}
 use Rattle.creation.specs.Creation.{creation}
 
+-- ---- actions, and their bytes as document 01 lays them: type (1), data length (2), expires_at (8), data
+
 -- a SolLimit of 100 that never expires
 unfoldable pub solLimit100 : Action
 solLimit100 = record { kind = solLimit; expires = 0; payload = bytesOf 8 100 }
 
--- a list entry for the program of zeros
+-- its 19 bytes
+unfoldable pub solLimit100Bytes : List ℕ
+solLimit100Bytes =
+    1
+    ∷ 8 ∷ 0
+    ∷ 0 ∷ 0 ∷ 0 ∷ 0 ∷ 0 ∷ 0 ∷ 0 ∷ 0
+    ∷ 100 ∷ 0 ∷ 0 ∷ 0 ∷ 0 ∷ 0 ∷ 0 ∷ 0
+    ∷ []
+
+-- a list entry that never expires, for the program of sevens
 unfoldable pub entry : ℕ → Action
-entry kind = record { kind = kind; expires = 0; payload = replicate 32 0 }
+entry kind = record { kind = kind; expires = 0; payload = replicate 32 7 }
+
+-- the 43 bytes of one in a whitelist, and of one in a blacklist
+unfoldable pub whitelistBytes : List ℕ
+whitelistBytes =
+    10
+    ∷ 32 ∷ 0
+    ∷ 0 ∷ 0 ∷ 0 ∷ 0 ∷ 0 ∷ 0 ∷ 0 ∷ 0
+    ∷ 7 ∷ 7 ∷ 7 ∷ 7 ∷ 7 ∷ 7 ∷ 7 ∷ 7
+    ∷ 7 ∷ 7 ∷ 7 ∷ 7 ∷ 7 ∷ 7 ∷ 7 ∷ 7
+    ∷ 7 ∷ 7 ∷ 7 ∷ 7 ∷ 7 ∷ 7 ∷ 7 ∷ 7
+    ∷ 7 ∷ 7 ∷ 7 ∷ 7 ∷ 7 ∷ 7 ∷ 7 ∷ 7
+    ∷ []
+
+unfoldable pub blacklistBytes : List ℕ
+blacklistBytes =
+    11
+    ∷ 32 ∷ 0
+    ∷ 0 ∷ 0 ∷ 0 ∷ 0 ∷ 0 ∷ 0 ∷ 0 ∷ 0
+    ∷ 7 ∷ 7 ∷ 7 ∷ 7 ∷ 7 ∷ 7 ∷ 7 ∷ 7
+    ∷ 7 ∷ 7 ∷ 7 ∷ 7 ∷ 7 ∷ 7 ∷ 7 ∷ 7
+    ∷ 7 ∷ 7 ∷ 7 ∷ 7 ∷ 7 ∷ 7 ∷ 7 ∷ 7
+    ∷ 7 ∷ 7 ∷ 7 ∷ 7 ∷ 7 ∷ 7 ∷ 7 ∷ 7
+    ∷ []
+
+-- some bytes, so many times one after the other
+unfoldable pub times : ℕ → List ℕ → List ℕ
+times zero bytes = []
+times (suc n) bytes = bytes ++ times n bytes
+
+-- ---- the table: that an action's bytes are those above, and what creation answers to them
 
 -- what creation answers, and the region's length
 unfoldable pub created : List ℕ → List ℕ
 created s = creation s .number ∷ length s ∷ []
 
 unfoldable pub namedValues : List NamedValue
-unfolding solLimit100 entry created
+unfolding solLimit100 solLimit100Bytes entry whitelistBytes blacklistBytes times created
 namedValues =
     -- A1: the empty region
     record { gives = created []; named = accepted ∷ 0 ∷ [] }
     -- A2: SolLimit 100, never expiring
-    ∷ record { gives = created (glue (solLimit100 ∷ [])); named = accepted ∷ 19 ∷ [] }
+    ∷ record { gives = glue (solLimit100 ∷ []); named = solLimit100Bytes }
+    ∷ record { gives = created solLimit100Bytes; named = accepted ∷ 19 ∷ [] }
     -- A3: its first 10 bytes
-    ∷ record { gives = created (take 10 (glue (solLimit100 ∷ []))); named = actionBufferInvalid ∷ 10 ∷ [] }
+    ∷ record { gives = take 10 solLimit100Bytes; named = 1 ∷ 8 ∷ 0 ∷ 0 ∷ 0 ∷ 0 ∷ 0 ∷ 0 ∷ 0 ∷ 0 ∷ [] }
+    ∷ record { gives = created (1 ∷ 8 ∷ 0 ∷ 0 ∷ 0 ∷ 0 ∷ 0 ∷ 0 ∷ 0 ∷ 0 ∷ []); named = actionBufferInvalid ∷ 10 ∷ [] }
     -- A4: whitelist, blacklist and two SolLimits
     ∷ record {
-      gives = created (glue (entry programWhitelist ∷ entry programBlacklist ∷ solLimit100 ∷ solLimit100 ∷ []));
+      gives = glue (entry programWhitelist ∷ entry programBlacklist ∷ solLimit100 ∷ solLimit100 ∷ []);
+      named = whitelistBytes ++ blacklistBytes ++ solLimit100Bytes ++ solLimit100Bytes;
+    }
+    ∷ record {
+      gives = created (whitelistBytes ++ blacklistBytes ++ solLimit100Bytes ++ solLimit100Bytes);
       named = actionWhitelistBlacklistConflict ∷ 124 ∷ [];
     }
     -- A5: sixteen whitelists, seventeen
-    ∷ record { gives = created (glue (replicate 16 (entry programWhitelist))); named = accepted ∷ 688 ∷ [] }
-    ∷ record { gives = created (glue (replicate 17 (entry programWhitelist))); named = actionBufferInvalid ∷ 731 ∷ [] }
+    ∷ record { gives = glue (replicate 16 (entry programWhitelist)); named = times 16 whitelistBytes }
+    ∷ record { gives = created (times 16 whitelistBytes); named = accepted ∷ 688 ∷ [] }
+    ∷ record { gives = glue (replicate 17 (entry programWhitelist)); named = times 17 whitelistBytes }
+    ∷ record { gives = created (times 17 whitelistBytes); named = actionBufferInvalid ∷ 731 ∷ [] }
     ∷ []

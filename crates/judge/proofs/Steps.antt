@@ -195,7 +195,7 @@ stored-refusal s r e = go (cut mostActions s) refl
     go (given k) q = form k q (inStoredForm k) refl
     go (refused t) q = same (rw (q, storedActions))
 
-stored-given : (s : List ℕ) (x : Refusable (List Action)) → storedActions s ≡ x → accepts (answerOf x) ≡ true → (l : List Action) × (storedActions s ≡ given l)
+pub stored-given : (s : List ℕ) (x : Refusable (List Action)) → storedActions s ≡ x → accepts (answerOf x) ≡ true → (l : List Action) × (storedActions s ≡ given l)
 stored-given s (given l) e h = (l, e)
 stored-given s (refused r) e h =
     absurd (let z : _≡_ {A = Bool} true false = sym h ∙ ap accepts (stored-refusal s r e) in let n : _≡_ {A = ℕ} 0 1 = cc in omega arith)

@@ -36,7 +36,7 @@ use Rattle.charge.proofs.Accepting.{EachKept, each-kept}
 use Rattle.programs.specs.Programs.{inLiveList, listsAnswer, programAnswer, programsAnswer}
 use Rattle.freeze.specs.Freeze.{allFrozen}
 use Rattle.judge.specs.Judge.{Call, answerOf, recordsBefore, recordsAfter, programIndexes, instructionsAnswer, actionsOf, amountFor, charged, soundness, rules, steps, judged, regionAfter}
-use Rattle.judge.proofs.Steps.{refused-keeps, stored-refusal}
+use Rattle.judge.proofs.Steps.{refused-keeps, stored-refusal, stored-given}
 
 -- a refusal leaves the region as it was
 pub a-refusal-leaves-the-region : (region : List ℕ) (call : Call) → accepts (judged region call) ≡ false → regionAfter region call ≡ region
@@ -150,6 +150,12 @@ pub a-stored-region-is-not-refused-as-such : (region : List ℕ) (call : Call) {
 a-stored-region-is-not-refused-as-such region call e =
     answer-listed 13 (lit≤ tt) region call (subst (λ (x : Refusable (List Action)). answerOf x .number ≤ 13) (sym e) (omega arith))
 
+-- only a region in stored form is accepted
+pub what-is-accepted-is-in-stored-form : (region : List ℕ) (call : Call) → accepts (judged region call) ≡ true → (l : List Action) × (storedActions region ≡ given l)
+unfolding judged steps soundness
+what-is-accepted-is-in-stored-form region call h =
+    stored-given region (storedActions region) refl (each-accepts (steps region call) h .1 .1 .1 .1 .0)
+
 -- ---- what an accepted call makes of a region's actions
 
 -- what it writes into one
@@ -172,7 +178,7 @@ module _ (call : Call) where
 
   module _ (region : List ℕ) {l : List Action} (stored : storedActions region ≡ given l) (h : accepts (judged region call) ≡ true) where
     -- the region is its changed actions, glued
-    region-written : regionAfter region call ≡ glue (map (λ (a : Action). changed (writes call a) a) l)
+    pub region-written : regionAfter region call ≡ glue (map (λ (a : Action). changed (writes call a) a) l)
     unfolding regionAfter
     region-written =
         ap (λ (t : Bool). cond t (glue (map (settled (call .slot)) (charged call (actionsOf (storedActions region))))) region) h

@@ -22,8 +22,6 @@ include!(concat!(env!("OUT_DIR"), "/sources.rs"));
 #[cfg(not(oracle_sources))]
 mod absent;
 #[cfg(all(test, oracle_sources))]
-mod differences;
-#[cfg(all(test, oracle_sources))]
 mod named_values;
 #[cfg(oracle_sources)]
 mod numbers;

@@ -13,7 +13,7 @@ fn oracle() -> Oracle {
     Oracle::find().expect("these tests are built only where the sources were found")
 }
 
-pub fn action(kind: u8, expires_at: u64, data: &[u8]) -> Vec<u8> {
+fn action(kind: u8, expires_at: u64, data: &[u8]) -> Vec<u8> {
     let mut bytes = vec![kind];
     bytes.extend((data.len() as u16).to_le_bytes());
     bytes.extend(expires_at.to_le_bytes());
@@ -21,7 +21,7 @@ pub fn action(kind: u8, expires_at: u64, data: &[u8]) -> Vec<u8> {
     bytes
 }
 
-pub fn numbers(values: &[u64]) -> Vec<u8> {
+fn numbers(values: &[u64]) -> Vec<u8> {
     values.iter().flat_map(|v| v.to_le_bytes()).collect()
 }
 
@@ -55,7 +55,7 @@ fn quiet(slot: u64, decrease: u64) -> Call<'static> {
     }
 }
 
-pub fn judge(region: &mut [u8], slot: u64, decrease: u64) -> u32 {
+fn judge(region: &mut [u8], slot: u64, decrease: u64) -> u32 {
     oracle().judge(region, &quiet(slot, decrease))
 }
 
