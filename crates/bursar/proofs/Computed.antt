@@ -73,7 +73,7 @@ unfolding exampleValues judgeValues witnessValues openings isBytes isCreated hol
 computed = record {
   example = (refl, (refl, (refl, (refl, (refl, tt)))));
   judges = (refl, (refl, (refl, (refl, (refl, (refl, (refl, (refl, (refl, (refl, (refl, tt)))))))))));
-  witness = (refl, (refl, (refl, (refl, (refl, (refl, (refl, tt)))))));
+  witness = (refl, (refl, (refl, (refl, (refl, (refl, (refl, (refl, tt))))))));
   created = (refl, (refl, (refl, (refl, tt))));
 }
 

@@ -8,14 +8,13 @@ use Prim.Native.Nat.{ℕ, _+_, _<_, _≤_}
 use native.Mathlib.Omega.{arith}
 use borrow.Author.Tests.{eqb-true, ne-eqb}
 use lib.Dec.{lit≤}
-use lib.ListN.{length, take}
+use lib.ListN.{length}
 use Rattle.answer.specs.declared.Answer.{Answer}
 use Rattle.answer.specs.Numbers.{answer, accepted, accepts}
 use Rattle.number.specs.Number.{flooredDifference, highest}
 use Rattle.action.specs.Fields.{remaining, limit}
-use Rattle.region.specs.Region.{glue}
 use Rattle.creation.specs.Creation.{creation}
-use Rattle.creation.specs.NamedValues.{solLimit100, created as creates, namedValues as creationValues}
+use Rattle.creation.specs.NamedValues.{a3, created as creates, namedValues as creationValues}
 use Rattle.creation.proofs.NamedValues.{as-named as creation-as-named}
 use Rattle.compact.specs.declared.ParsedInstructions.{ParsedInstructions}
 use Rattle.compact.specs.Views.{reading}
@@ -90,12 +89,12 @@ module _ (writes : ℕ → List ℕ → Call → List ℕ) where
 
 -- creation that accepts everything
 pub creation-that-accepts-everything-falls-by-A3 : (check : List ℕ → Answer) → ((region : List ℕ) → accepts (check region) ≡ true)
-    → check (take 10 (glue (solLimit100 ∷ []))) .number ≡ creation (take 10 (glue (solLimit100 ∷ []))) .number → ⊥
+    → check a3 .number ≡ creation a3 .number → ⊥
 unfolding creationValues creates
 creation-that-accepts-everything-falls-by-A3 check accepts-all e =
-    let is = number-is (creation-as-named .1 .1 .0) in
-    let zero-is : check (take 10 (glue (solLimit100 ∷ []))) .number ≡ 0 = eqb-true _ _ (accepts-all (take 10 (glue (solLimit100 ∷ [])))) in
-    omega (arith, e, is, zero-is)
+    let is = number-is (creation-as-named .1 .1 .1 .1 .0) in
+    let accepts-a3 : check a3 .number ≡ accepted = eqb-true _ _ (accepts-all a3) in
+    omega (arith, e, is, accepts-a3)
 
 -- a reader whose count of consumed bytes is made up
 pub a-made-up-consumed-count-falls-by-C2 : (reader : List ℕ → ParsedInstructions) → (reader c2 .consumed ≡ 8 → ⊥) → reader c2 ≡ reading c2 → ⊥

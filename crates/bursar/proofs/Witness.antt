@@ -21,15 +21,15 @@ adds fund opening end took is = (is, adds-up ours fund (desk 100 50 20 0 0) term
 
 pub sol-adds-up : Adds sol 100 90 10
 unfolding witnessValues
-sol-adds-up = adds sol 100 90 10 (computed .witness .1 .1 .0)
+sol-adds-up = adds sol 100 90 10 (computed .witness .1 .1 .1 .0)
 
 pub paper-adds-up : Adds (tokens paper) 50 10 40
 unfolding witnessValues
-paper-adds-up = adds (tokens paper) 50 10 40 (computed .witness .1 .1 .1 .0)
+paper-adds-up = adds (tokens paper) 50 10 40 (computed .witness .1 .1 .1 .1 .0)
 
 pub pencils-add-up : Adds (tokens pencils) 20 12 8
 unfolding witnessValues
-pencils-add-up = adds (tokens pencils) 20 12 8 (computed .witness .1 .1 .1 .1 .0)
+pencils-add-up = adds (tokens pencils) 20 12 8 (computed .witness .1 .1 .1 .1 .1 .0)
 
 slots-fit : Slotted term
 unfolding term order highest
@@ -44,6 +44,6 @@ pub each-window-of-paper-is-within-its-limit : (takenAt 0 (tokens paper) ours (d
     × ((slot : ℕ) → takenAt slot (tokens paper) ours (desk 100 50 20 0 0) term ≤ 30)
 unfolding witnessValues
 each-window-of-paper-is-within-its-limit = (
-  computed .witness .1 .1 .1 .1 .1 .1 .0,
-  is-within ours (tokens paper) (desk 100 50 20 0 0) term witness-created slots-fit 30 (computed .witness .1 .1 .1 .1 .1 .0) small ours-keeps-the-sentence,
+  computed .witness .1 .1 .1 .1 .1 .1 .1 .0,
+  is-within ours (tokens paper) (desk 100 50 20 0 0) term witness-created slots-fit 30 (computed .witness .1 .1 .1 .1 .1 .1 .0) small ours-keeps-the-sentence,
 )

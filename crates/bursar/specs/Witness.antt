@@ -14,8 +14,8 @@ use Rattle.table.specs.Table.{glueTable}
 use Rattle.token.specs.Tokens.{splToken}
 use Rattle.judge.specs.Judge.{Call}
 use Rattle.bursar.specs.Run.{ours, afterRun, numbersOf, sol, tokens}
-use Rattle.bursar.specs.Limits.{recurringOf, takenAt}
-use Rattle.bursar.specs.Judges.{sums, limitIn}
+use Rattle.bursar.specs.Limits.{limitOf, recurringOf, takenAt}
+use Rattle.bursar.specs.Judges.{leftIn, sums, limitIn}
 
 -- two mints, and the vault
 abbrev pub paper : List ℕ
@@ -77,7 +77,9 @@ term =
 unfoldable pub witnessValues : List NamedValue
 unfolding desk term
 witnessValues =
-    record {
+    -- each mint has a limit of its own
+    record { gives = leftIn (limitOf (tokens paper) (desk 100 50 20 0 0)) ++ leftIn (limitOf (tokens pencils) (desk 100 50 20 0 0)); named = 50 ∷ 20 ∷ [] }
+    ∷ record {
       gives = numbersOf ours (desk 100 50 20 0 0) term;
       named = accepted ∷ actionTokenRecurringLimitExceeded ∷ actionTokenLimitExceeded ∷ accepted ∷ accepted ∷ accepted ∷ actionSolLimitExceeded ∷ [];
     }

@@ -25,6 +25,10 @@ solLimit100Bytes =
     ∷ 100 ∷ 0 ∷ 0 ∷ 0 ∷ 0 ∷ 0 ∷ 0 ∷ 0
     ∷ []
 
+-- the first 10 of them
+abbrev pub a3 : List ℕ
+a3 = 1 ∷ 8 ∷ 0 ∷ 0 ∷ 0 ∷ 0 ∷ 0 ∷ 0 ∷ 0 ∷ 0 ∷ []
+
 -- a list entry that never expires, for the program of sevens
 unfoldable pub entry : ℕ → Action
 entry kind = record { kind = kind; expires = 0; payload = replicate 32 7 }
@@ -72,8 +76,8 @@ namedValues =
     ∷ record { gives = glue (solLimit100 ∷ []); named = solLimit100Bytes }
     ∷ record { gives = created solLimit100Bytes; named = accepted ∷ 19 ∷ [] }
     -- A3: its first 10 bytes
-    ∷ record { gives = take 10 solLimit100Bytes; named = 1 ∷ 8 ∷ 0 ∷ 0 ∷ 0 ∷ 0 ∷ 0 ∷ 0 ∷ 0 ∷ 0 ∷ [] }
-    ∷ record { gives = created (1 ∷ 8 ∷ 0 ∷ 0 ∷ 0 ∷ 0 ∷ 0 ∷ 0 ∷ 0 ∷ 0 ∷ []); named = actionBufferInvalid ∷ 10 ∷ [] }
+    ∷ record { gives = take 10 solLimit100Bytes; named = a3 }
+    ∷ record { gives = created a3; named = actionBufferInvalid ∷ 10 ∷ [] }
     -- A4: whitelist, blacklist and two SolLimits
     ∷ record {
       gives = glue (entry programWhitelist ∷ entry programBlacklist ∷ solLimit100 ∷ solLimit100 ∷ []);

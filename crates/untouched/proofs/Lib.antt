@@ -1,4 +1,4 @@
-pub mod Actions
 pub mod Example
 pub mod SameBut
+pub mod OneAction
 pub mod Theorems

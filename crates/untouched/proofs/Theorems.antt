@@ -21,7 +21,7 @@ use Rattle.judge.specs.Judge.{Call, actionsOf, amountFor, judged, regionAfter}
 use Rattle.judge.proofs.Theorems.{a-refusal-leaves-the-region, what-is-accepted-is-in-stored-form, writes, region-written}
 use Rattle.untouched.specs.MayChange.{mayNot, ofAmounts, ofAction, mayChange}
 use Rattle.untouched.proofs.SameBut.{SameBut, ended, joined, all-kept, as-long, a-bool-for-each, same-there}
-use Rattle.untouched.proofs.Actions.{action-alone}
+use Rattle.untouched.proofs.OneAction.{action-alone}
 
 each-alone : (call : Call) (l : List Action) → Each Regular l → SameBut (flatMap (ofAction call) l) (glue l) (glue (map (λ (a : Action). changed (writes call a) a) l))
 unfolding glue flatMap
