@@ -1,4 +1,4 @@
--- What is computed of runs, in one table.
+-- What is computed of runs: all of it unfolds the same definitions, which are named once.
 -- Assumes nothing.
 use mathlib.Core.Path.{_≡_, refl}
 use mathlib.Core.Bool.{Bool, true, _&&_, and-eq-true-iff}
@@ -7,8 +7,6 @@ use Prim.Native.Nat.{ℕ, zero, suc}
 use native.Mathlib.Omega.{arith}
 use borrow.Author.Tests.{ltb-true}
 use lib.Dec.{ltb}
-use Rattle.answer.specs.NamedValue.{AsNamed}
-use Rattle.answer.specs.Each.{Each}
 use Rattle.answer.specs.Numbers.{accepts, firstRefusal}
 use Rattle.number.specs.Number.{Bytes, number, bytesOf, numberAt, cappedSum, flooredDifference, withNumberAt, highest}
 use Rattle.part.specs.Part.{partAt}
@@ -32,9 +30,9 @@ use Rattle.judge.specs.Judge.{recordsBefore, recordsAfter, amountFor, charged, 
 use Rattle.judge.specs.NamedValues.{one, left, recurring, called, spending}
 use Rattle.bursar.specs.Run.{Created, afterRun, numbersOf, takenBy, takenWhere}
 use Rattle.bursar.specs.Limits.{speaksOf, firstThat, limitOf, recurringOf}
-use Rattle.bursar.specs.Judges.{unspent, reset, sums, judgeValues}
-use Rattle.bursar.specs.Example.{holding, morning, exampleValues}
-use Rattle.bursar.specs.Witness.{desk, account, stock, order, term, witnessValues}
+use Rattle.bursar.specs.Judges.{unspent, reset, sums, JudgesComputed}
+use Rattle.bursar.specs.Example.{holding, morning, ExampleComputed}
+use Rattle.bursar.specs.Witness.{desk, account, stock, order, term, WitnessComputed}
 
 -- ---- regions that creation accepted, as a test
 
@@ -48,7 +46,7 @@ are-bytes [] e i = omega arith
 are-bytes (b ∷ bs) e zero = ltb-true _ _ (and-eq-true-iff (ltb b 256) (isBytes bs) .0 e .0)
 are-bytes (b ∷ bs) e (suc i) = are-bytes bs (and-eq-true-iff (ltb b 256) (isBytes bs) .0 e .1) i
 
-pub isCreated : List ℕ → Bool
+isCreated : List ℕ → Bool
 unfolding isBytes
 isCreated region = isBytes region && accepts (creation region)
 
@@ -56,39 +54,68 @@ is-created : (region : List ℕ) → isCreated region ≡ true → Created regio
 unfolding isCreated
 is-created region e = let (bytes, accepted) = and-eq-true-iff (isBytes region) (accepts (creation region)) .0 e in (are-bytes region bytes, accepted)
 
--- the regions that the runs begin with
-pub openings : List (List ℕ)
-openings = holding 100 0 0 ∷ desk 100 50 20 0 0 ∷ left 100 ∷ recurring 50 0 0 ∷ []
-
 -- ---- all that is computed
 
-pub record Computed : Type 0 where
-  pub example : AsNamed exampleValues
-  pub judges : AsNamed judgeValues
-  pub witness : AsNamed witnessValues
-  pub created : Each (λ (region : List ℕ). isCreated region ≡ true) openings
+record All : Type 0 where
+  example : ExampleComputed
+  judges : JudgesComputed
+  witness : WitnessComputed
+  example-created : isCreated (holding 100 0 0) ≡ true
+  witness-created : isCreated (desk 100 50 20 0 0) ≡ true
+  left-created : isCreated (left 100) ≡ true
+  recurring-created : isCreated (recurring 50 0 0) ≡ true
 
-pub computed : Computed
-unfolding exampleValues judgeValues witnessValues openings isBytes isCreated holding morning one left recurring called spending unspent reset desk account stock order term glueTable glueRecords glueRecord sums afterRun numbersOf takenBy takenWhere speaksOf firstThat limitOf recurringOf judged regionAfter steps soundness rules charged amountFor amountFrom decreaseOf decrease solAmount recordsBefore recordsAfter programsAnswer allFrozen keepsFreeze firstWithKey isStill sameAuthorities samePart partAt isCounted isTokenAccount classAnswer ofClass isSol ruleAnswer breaks above base windowOver refusalOf settled changeOf liveChange isLimit spentChange changed withAmounts storedActions inStoredForm creation formOf allKeep keeps bothLists solRepeats howOften mintRepeats mintAgain isToken isRecurring keyOf amountsOf isListed expired cut first headerDataLength dataLength sizeAmong glue glueOne number bytesOf numberAt cappedSum flooredDifference withNumberAt highest firstRefusal sameKey sameBytes cutTable cutRecords firstRecord recordDataLength balance holdings share mostInstructions byte front decodeOne decodeEach decode
-computed = record {
-  example = (refl, (refl, (refl, (refl, (refl, tt)))));
-  judges = (refl, (refl, (refl, (refl, (refl, (refl, (refl, (refl, (refl, (refl, (refl, tt)))))))))));
-  witness = (refl, (refl, (refl, (refl, (refl, (refl, (refl, (refl, tt))))))));
-  created = (refl, (refl, (refl, (refl, tt))));
+all : All
+unfolding isBytes isCreated holding morning one left recurring called spending unspent reset desk account stock order term glueTable glueRecords glueRecord sums afterRun numbersOf takenBy takenWhere speaksOf firstThat limitOf recurringOf judged regionAfter steps soundness rules charged amountFor amountFrom decreaseOf decrease solAmount recordsBefore recordsAfter programsAnswer allFrozen keepsFreeze firstWithKey isStill sameAuthorities samePart partAt isCounted isTokenAccount classAnswer ofClass isSol ruleAnswer breaks above base windowOver refusalOf settled changeOf liveChange isLimit spentChange changed withAmounts storedActions inStoredForm creation formOf allKeep keeps bothLists solRepeats howOften mintRepeats mintAgain isToken isRecurring keyOf amountsOf isListed expired cut first headerDataLength dataLength sizeAmong glue glueOne number bytesOf numberAt cappedSum flooredDifference withNumberAt highest firstRefusal sameKey sameBytes cutTable cutRecords firstRecord recordDataLength balance holdings share mostInstructions byte front decodeOne decodeEach decode
+all = record {
+  example = record { numbers = refl; after = refl; of-sol = refl; window = refl; taken-first = refl; taken-then = refl };
+  judges = record {
+    ours-once = refl;
+    ours-twice = refl;
+    never-writing = refl;
+    settling-once = refl;
+    settling-twice = refl;
+    opening = refl;
+    window = refl;
+    taken-once = refl;
+    spent-once = refl;
+    fresh-is-reset = refl;
+    reset-is-fresh = refl;
+  };
+  witness = record {
+    each-mint-has-its-own = refl;
+    numbers = refl;
+    after = refl;
+    of-sol = refl;
+    of-paper = refl;
+    of-pencils = refl;
+    window = refl;
+    taken-first = refl;
+    taken-then = refl;
+  };
+  example-created = refl;
+  witness-created = refl;
+  left-created = refl;
+  recurring-created = refl;
 }
 
+pub example-computed : ExampleComputed
+example-computed = all .example
+
+pub judges-computed : JudgesComputed
+judges-computed = all .judges
+
+pub witness-computed : WitnessComputed
+witness-computed = all .witness
+
 pub example-created : Created (holding 100 0 0)
-unfolding openings
-example-created = is-created _ (computed .created .0)
+example-created = is-created _ (all .example-created)
 
 pub witness-created : Created (desk 100 50 20 0 0)
-unfolding openings
-witness-created = is-created _ (computed .created .1 .0)
+witness-created = is-created _ (all .witness-created)
 
 pub left-created : Created (left 100)
-unfolding openings
-left-created = is-created _ (computed .created .1 .1 .0)
+left-created = is-created _ (all .left-created)
 
 pub recurring-created : Created (recurring 50 0 0)
-unfolding openings
-recurring-created = is-created _ (computed .created .1 .1 .1 .0)
+recurring-created = is-created _ (all .recurring-created)

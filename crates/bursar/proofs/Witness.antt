@@ -8,8 +8,8 @@ use Rattle.number.specs.Number.{highest}
 use Rattle.bursar.specs.Run.{Slotted, ours, Fund, sol, tokens}
 use Rattle.bursar.specs.Limits.{takenAt}
 use Rattle.bursar.specs.Judges.{sums}
-use Rattle.bursar.specs.Witness.{paper, pencils, desk, order, term, witnessValues}
-use Rattle.bursar.proofs.Computed.{computed, witness-created}
+use Rattle.bursar.specs.Witness.{paper, pencils, desk, order, term}
+use Rattle.bursar.proofs.Computed.{witness-computed, witness-created}
 use Rattle.bursar.proofs.Judges.{ours-keeps-the-sentence, adds-up, is-within}
 
 -- the opening amount, what is left and what was taken of a fund, and that they add up
@@ -20,16 +20,13 @@ adds : (fund : Fund) (opening end took : ℕ) → sums fund ours (desk 100 50 20
 adds fund opening end took is = (is, adds-up ours fund (desk 100 50 20 0 0) term witness-created opening end took is ours-keeps-the-sentence)
 
 pub sol-adds-up : Adds sol 100 90 10
-unfolding witnessValues
-sol-adds-up = adds sol 100 90 10 (computed .witness .1 .1 .1 .0)
+sol-adds-up = adds sol 100 90 10 (witness-computed .of-sol)
 
 pub paper-adds-up : Adds (tokens paper) 50 10 40
-unfolding witnessValues
-paper-adds-up = adds (tokens paper) 50 10 40 (computed .witness .1 .1 .1 .1 .0)
+paper-adds-up = adds (tokens paper) 50 10 40 (witness-computed .of-paper)
 
 pub pencils-add-up : Adds (tokens pencils) 20 12 8
-unfolding witnessValues
-pencils-add-up = adds (tokens pencils) 20 12 8 (computed .witness .1 .1 .1 .1 .1 .0)
+pencils-add-up = adds (tokens pencils) 20 12 8 (witness-computed .of-pencils)
 
 slots-fit : Slotted term
 unfolding term order highest
@@ -39,11 +36,7 @@ small : 30 < highest
 unfolding highest
 small = lit≤ tt
 
--- 15 were taken in the first window and 25 in the second, each at most the limit
-pub each-window-of-paper-is-within-its-limit : (takenAt 0 (tokens paper) ours (desk 100 50 20 0 0) term ∷ takenAt 10 (tokens paper) ours (desk 100 50 20 0 0) term ∷ [] ≡ 15 ∷ 25 ∷ [])
-    × ((slot : ℕ) → takenAt slot (tokens paper) ours (desk 100 50 20 0 0) term ≤ 30)
-unfolding witnessValues
-each-window-of-paper-is-within-its-limit = (
-  computed .witness .1 .1 .1 .1 .1 .1 .1 .0,
-  is-within ours (tokens paper) (desk 100 50 20 0 0) term witness-created slots-fit 30 (computed .witness .1 .1 .1 .1 .1 .1 .0) small ours-keeps-the-sentence,
-)
+-- whichever last reset they leave: 15 were taken in the first window, 25 in the second
+pub each-window-of-paper-is-within-its-limit : (slot : ℕ) → takenAt slot (tokens paper) ours (desk 100 50 20 0 0) term ≤ 30
+each-window-of-paper-is-within-its-limit =
+    is-within ours (tokens paper) (desk 100 50 20 0 0) term witness-created slots-fit 30 (witness-computed .window) small ours-keeps-the-sentence

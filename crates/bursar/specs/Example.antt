@@ -1,8 +1,8 @@
 -- A run with accepted and refused calls, a window that begins anew and a slot that goes back: the sentences speak of something.
 -- Assumes nothing.
 use Prim.Native.Nat.{ℕ}
+use mathlib.Core.Path.{_≡_}
 use mathlib.Core.List.{List, [], _∷_, _++_}
-use Rattle.answer.specs.NamedValue.{NamedValue}
 use Rattle.answer.specs.Numbers.{accepted, actionSolLimitExceeded, actionSolRecurringLimitExceeded}
 use Rattle.number.specs.Number.{bytesOf}
 use Rattle.action.specs.Action.{solLimit, solRecurringLimit}
@@ -26,17 +26,14 @@ unfoldable pub morning : List Call
 unfolding spending
 morning = spending 5 30 ∷ spending 5 30 ∷ spending 25 40 ∷ spending 3 5 ∷ spending 26 26 ∷ []
 
-unfoldable pub exampleValues : List NamedValue
-unfolding holding morning
-exampleValues =
-    record {
-      gives = numbersOf ours (holding 100 0 0) morning;
-      named = accepted ∷ actionSolRecurringLimitExceeded ∷ accepted ∷ accepted ∷ actionSolLimitExceeded ∷ [];
-    }
-    ∷ record { gives = afterRun ours (holding 100 0 0) morning; named = holding 25 45 20 }
-    -- the opening amount, what is left, what was taken
-    ∷ record { gives = sums sol ours (holding 100 0 0) morning; named = 100 ∷ 25 ∷ 75 ∷ [] }
-    -- the limit of the window, what was taken with the last reset at 0 and at 20
-    ∷ record { gives = limitIn (recurringOf sol (holding 100 0 0)); named = 50 ∷ [] }
-    ∷ record { gives = takenAt 0 sol ours (holding 100 0 0) morning ∷ takenAt 20 sol ours (holding 100 0 0) morning ∷ []; named = 30 ∷ 45 ∷ [] }
-    ∷ []
+-- what is computed of the run
+pub record ExampleComputed : Type 0 where
+  pub numbers
+      : numbersOf ours (holding 100 0 0) morning ≡ accepted ∷ actionSolRecurringLimitExceeded ∷ accepted ∷ accepted ∷ actionSolLimitExceeded ∷ []
+  pub after : afterRun ours (holding 100 0 0) morning ≡ holding 25 45 20
+  -- the opening amount, what is left, what was taken
+  pub of-sol : sums sol ours (holding 100 0 0) morning ≡ 100 ∷ 25 ∷ 75 ∷ []
+  -- the limit of the window, what was taken with the last reset at 0 and at 20
+  pub window : limitIn (recurringOf sol (holding 100 0 0)) ≡ 50 ∷ []
+  pub taken-first : takenAt 0 sol ours (holding 100 0 0) morning ≡ 30
+  pub taken-then : takenAt 20 sol ours (holding 100 0 0) morning ≡ 45

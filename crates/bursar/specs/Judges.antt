@@ -1,10 +1,10 @@
 -- Judges beside ours: each is the wrong program that its name says.
 -- Assumes nothing.
 use Prim.Native.Nat.{ℕ, zero, suc}
+use mathlib.Core.Path.{_≡_}
 use mathlib.Core.Bool.{Bool, cond}
 use mathlib.Core.List.{List, [], _∷_, _++_, map}
 use mathlib.Core.Option.{Option, none, some}
-use Rattle.answer.specs.NamedValue.{NamedValue}
 use Rattle.answer.specs.Numbers.{answer, accepted}
 use Rattle.action.specs.Action.{Action}
 use Rattle.action.specs.Fields.{isRecurring, amountsOf, remaining, limit, lastReset}
@@ -69,23 +69,21 @@ once = spending 5 40 ∷ []
 abbrev pub twice : List Call
 twice = spending 5 40 ∷ once
 
-unfoldable pub judgeValues : List NamedValue
-unfolding sums reset
-judgeValues =
-    -- ours: of 100 there are 60 and 40, then 20 and 80
-    record { gives = sums sol ours (left 100) once; named = 100 ∷ 60 ∷ 40 ∷ [] }
-    ∷ record { gives = sums sol ours (left 100) twice; named = 100 ∷ 20 ∷ 80 ∷ [] }
-    -- never writing: 100 are left beside 40 that were taken
-    ∷ record { gives = sums sol neverWriting (left 100) once; named = 100 ∷ 100 ∷ 40 ∷ [] }
-    -- settling the first call: right at first, and at the second decrease 60 are left beside 80
-    ∷ record { gives = sums sol settlingTheFirst (left 100) once; named = 100 ∷ 60 ∷ 40 ∷ [] }
-    ∷ record { gives = sums sol settlingTheFirst (left 100) twice; named = 100 ∷ 60 ∷ 80 ∷ [] }
-    -- accepting everything: 101 are taken of 100
-    ∷ record { gives = leftIn (limitOf sol (left 100)); named = 100 ∷ [] }
-    -- resetting windows: of 50 there are 40 spent, and after a reset 40 again, with the last reset at 0 both times
-    ∷ record { gives = limitIn (recurringOf sol (recurring 50 0 0)); named = 50 ∷ [] }
-    ∷ record { gives = takenAt 0 sol ours (recurring 50 0 0) once ∷ []; named = 40 ∷ [] }
-    ∷ record { gives = regionAfter (recurring 50 0 0) (spending 5 40); named = recurring 50 40 0 }
-    ∷ record { gives = reset (recurring 50 0 0); named = recurring 50 0 0 }
-    ∷ record { gives = reset (recurring 50 40 0); named = recurring 50 0 0 }
-    ∷ []
+-- what is computed of their runs
+pub record JudgesComputed : Type 0 where
+  -- ours: of 100 there are 60 and 40, then 20 and 80
+  pub ours-once : sums sol ours (left 100) once ≡ 100 ∷ 60 ∷ 40 ∷ []
+  pub ours-twice : sums sol ours (left 100) twice ≡ 100 ∷ 20 ∷ 80 ∷ []
+  -- never writing: 100 are left beside 40 that were taken
+  pub never-writing : sums sol neverWriting (left 100) once ≡ 100 ∷ 100 ∷ 40 ∷ []
+  -- settling the first call: right at first, and at the second decrease 60 are left beside 80
+  pub settling-once : sums sol settlingTheFirst (left 100) once ≡ 100 ∷ 60 ∷ 40 ∷ []
+  pub settling-twice : sums sol settlingTheFirst (left 100) twice ≡ 100 ∷ 60 ∷ 80 ∷ []
+  -- accepting everything: of 100 it takes what it is asked for
+  pub opening : leftIn (limitOf sol (left 100)) ≡ 100 ∷ []
+  -- resetting windows: of 50, 40 are spent; with nothing spent, and the last reset as it was, 40 are taken again
+  pub window : limitIn (recurringOf sol (recurring 50 0 0)) ≡ 50 ∷ []
+  pub taken-once : takenAt 0 sol ours (recurring 50 0 0) once ≡ 40
+  pub spent-once : regionAfter (recurring 50 0 0) (spending 5 40) ≡ recurring 50 40 0
+  pub fresh-is-reset : reset (recurring 50 0 0) ≡ recurring 50 0 0
+  pub reset-is-fresh : reset (recurring 50 40 0) ≡ recurring 50 0 0

@@ -2,9 +2,9 @@
 -- accepted and refused, a window begins anew and a slot goes back: the sentences speak of something.
 -- Assumes nothing.
 use Prim.Native.Nat.{ℕ}
+use mathlib.Core.Path.{_≡_}
 use mathlib.Core.List.{List, [], _∷_, _++_}
 use lib.ListN.{replicate}
-use Rattle.answer.specs.NamedValue.{NamedValue}
 use Rattle.answer.specs.Numbers.{accepted, actionSolLimitExceeded, actionTokenLimitExceeded, actionTokenRecurringLimitExceeded}
 use Rattle.number.specs.Number.{bytesOf}
 use Rattle.action.specs.Action.{solLimit, tokenLimit, tokenRecurringLimit}
@@ -74,24 +74,18 @@ term =
     ∷ order 17 91 (stock 30 30 22) (stock 30 30 22)
     ∷ []
 
-unfoldable pub witnessValues : List NamedValue
-unfolding desk term
-witnessValues =
-    -- each mint has a limit of its own
-    record { gives = leftIn (limitOf (tokens paper) (desk 100 50 20 0 0)) ++ leftIn (limitOf (tokens pencils) (desk 100 50 20 0 0)); named = 50 ∷ 20 ∷ [] }
-    ∷ record {
-      gives = numbersOf ours (desk 100 50 20 0 0) term;
-      named = accepted ∷ actionTokenRecurringLimitExceeded ∷ actionTokenLimitExceeded ∷ accepted ∷ accepted ∷ accepted ∷ actionSolLimitExceeded ∷ [];
-    }
-    ∷ record { gives = afterRun ours (desk 100 50 20 0 0) term; named = desk 90 10 12 25 10 }
-    -- of each limit: the opening amount, what is left, what was taken
-    ∷ record { gives = sums sol ours (desk 100 50 20 0 0) term; named = 100 ∷ 90 ∷ 10 ∷ [] }
-    ∷ record { gives = sums (tokens paper) ours (desk 100 50 20 0 0) term; named = 50 ∷ 10 ∷ 40 ∷ [] }
-    ∷ record { gives = sums (tokens pencils) ours (desk 100 50 20 0 0) term; named = 20 ∷ 12 ∷ 8 ∷ [] }
-    -- of paper's window: its limit, what was taken with the last reset at 0 and at 10
-    ∷ record { gives = limitIn (recurringOf (tokens paper) (desk 100 50 20 0 0)); named = 30 ∷ [] }
-    ∷ record {
-      gives = takenAt 0 (tokens paper) ours (desk 100 50 20 0 0) term ∷ takenAt 10 (tokens paper) ours (desk 100 50 20 0 0) term ∷ [];
-      named = 15 ∷ 25 ∷ [];
-    }
-    ∷ []
+-- what is computed of the run: the opening is `desk 100 50 20 0 0`
+pub record WitnessComputed : Type 0 where
+  pub each-mint-has-its-own : leftIn (limitOf (tokens paper) (desk 100 50 20 0 0)) ++ leftIn (limitOf (tokens pencils) (desk 100 50 20 0 0)) ≡ 50 ∷ 20 ∷ []
+  pub numbers
+      : numbersOf ours (desk 100 50 20 0 0) term
+      ≡ accepted ∷ actionTokenRecurringLimitExceeded ∷ actionTokenLimitExceeded ∷ accepted ∷ accepted ∷ accepted ∷ actionSolLimitExceeded ∷ []
+  pub after : afterRun ours (desk 100 50 20 0 0) term ≡ desk 90 10 12 25 10
+  -- of each limit: the opening amount, what is left, what was taken
+  pub of-sol : sums sol ours (desk 100 50 20 0 0) term ≡ 100 ∷ 90 ∷ 10 ∷ []
+  pub of-paper : sums (tokens paper) ours (desk 100 50 20 0 0) term ≡ 50 ∷ 10 ∷ 40 ∷ []
+  pub of-pencils : sums (tokens pencils) ours (desk 100 50 20 0 0) term ≡ 20 ∷ 12 ∷ 8 ∷ []
+  -- of paper's window: its limit, what was taken with the last reset at 0 and at 10
+  pub window : limitIn (recurringOf (tokens paper) (desk 100 50 20 0 0)) ≡ 30 ∷ []
+  pub taken-first : takenAt 0 (tokens paper) ours (desk 100 50 20 0 0) term ≡ 15
+  pub taken-then : takenAt 10 (tokens paper) ours (desk 100 50 20 0 0) term ≡ 25
