@@ -1,6 +1,6 @@
 -- The sentence against every judge: ours keeps it, and what each wrong one falls by.
 -- Assumes nothing.
-use mathlib.Core.Path.{_≡_, refl, sym, ap, _∙_}
+use mathlib.Core.Path.{_≡_, refl, sym, ap, subst, _∙_}
 use mathlib.Core.Bool.{Bool, true, false, cond, _&&_}
 use mathlib.Core.List.{List, [], _∷_, _++_}
 use mathlib.Core.Option.{Option, none, some}
@@ -26,7 +26,7 @@ use Rattle.judge.specs.NamedValues.{left, recurring, called, spending, outcome,
 use Rattle.judge.proofs.NamedValues.{calls-as-named}
 use Rattle.bursar.specs.Run.{Created, Slotted, Judgment, Judge, ours, afterRun, Fund, sol, takenBy, takenWhere, taken}
 use Rattle.bursar.specs.Limits.{limitOf, recurringOf, takenAt}
-use Rattle.bursar.specs.Sentence.{KeepsTheSentence, JudgesAsOurs, FallsBy}
+use Rattle.bursar.specs.Sentence.{LeftAndTaken, WithinWindows, KeepsTheSentence, JudgesAsOurs, FallsBy}
 use Rattle.bursar.specs.Judges.{refusing, accepting, neverWriting, settlingTheFirst, resetting, reset, leftIn, sums, limitIn, once, twice}
 use Rattle.bursar.proofs.Theorems.{what-is-left-and-what-was-taken-are-the-opening, a-window-takes-at-most-its-limit}
 use Rattle.bursar.proofs.Computed.{judges-computed, left-created, recurring-created}
@@ -40,8 +40,8 @@ rest-is : {n m : ℕ} {l k : List ℕ} → n ∷ l ≡ m ∷ k → l ≡ k
 rest-is e = cc
 
 module _ (judge : Judge) (fund : Fund) (region : List ℕ) (calls : List Call) (created : Created region) where
-  -- of a judge that keeps the sentence, the sums of a run add up
-  pub adds-up : (opening end took : ℕ) → sums fund judge region calls ≡ opening ∷ end ∷ took ∷ [] → KeepsTheSentence judge → end + took ≡ opening
+  -- of a judge that keeps its first half, the sums of a run add up
+  pub adds-up : (opening end took : ℕ) → sums fund judge region calls ≡ opening ∷ end ∷ took ∷ [] → LeftAndTaken judge → end + took ≡ opening
   unfolding sums
   adds-up opening end took is keeps = go (limitOf fund region) (limitOf fund (afterRun judge region calls)) refl refl is
     where
@@ -51,7 +51,7 @@ module _ (judge : Judge) (fund : Fund) (region : List ℕ) (calls : List Call) (
       go none (some b) first last e = absurd (let short : 2 ≡ 3 = ap length e in omega (arith, short))
       go (some a) none first last e = absurd (let short : 2 ≡ 3 = ap length e in omega (arith, short))
       go (some a) (some b) first last e =
-          let (c, found, sum) = keeps .left region calls fund a created first in
+          let (c, found, sum) = keeps region calls fund a created first in
           let same : b ≡ c = let is-same : some b ≡ some c = sym last ∙ found in cc in
           let left-is : remaining b ≡ remaining c = ap remaining same in
           let opening-is : remaining a ≡ opening = number-is e in
@@ -59,8 +59,8 @@ module _ (judge : Judge) (fund : Fund) (region : List ℕ) (calls : List Call) (
           let took-is : taken fund judge region calls ≡ took = number-is (rest-is (rest-is e)) in
           omega (arith, left-is, opening-is, end-is, took-is, sum)
 
-  -- and what is taken with one last reset is at most the limit
-  pub is-within : Slotted calls → (most : ℕ) → limitIn (recurringOf fund region) ≡ most ∷ [] → most < highest → KeepsTheSentence judge
+  -- of one that keeps its second half, what is taken with one last reset is at most the limit
+  pub is-within : Slotted calls → (most : ℕ) → limitIn (recurringOf fund region) ≡ most ∷ [] → most < highest → WithinWindows judge
       → (slot : ℕ) → takenAt slot fund judge region calls ≤ most
   is-within slots most is below keeps slot = go (recurringOf fund region) refl is
     where
@@ -68,17 +68,17 @@ module _ (judge : Judge) (fund : Fund) (region : List ℕ) (calls : List Call) (
       go none there e = absurd (let short : _≡_ {A = ℕ} 0 1 = ap length e in omega (arith, short))
       go (some a) there e =
           let most-is : limit a ≡ most = number-is e in
-          let within = keeps .windows region calls fund a created slots there (rw most-is below) slot in
+          let within = keeps region calls fund a created slots there (rw most-is below) slot in
           omega (arith, most-is, within)
 
   -- and no more is taken than the opening amount
-  pub takes-at-most-the-opening : (opening : ℕ) → leftIn (limitOf fund region) ≡ opening ∷ [] → KeepsTheSentence judge → taken fund judge region calls ≤ opening
+  pub takes-at-most-the-opening : (opening : ℕ) → leftIn (limitOf fund region) ≡ opening ∷ [] → LeftAndTaken judge → taken fund judge region calls ≤ opening
   takes-at-most-the-opening opening is keeps = go (limitOf fund region) refl is
     where
       go : (a : Option (List ℕ)) → limitOf fund region ≡ a → leftIn a ≡ opening ∷ [] → taken fund judge region calls ≤ opening
       go none there e = absurd (let short : _≡_ {A = ℕ} 0 1 = ap length e in omega (arith, short))
       go (some a) there e =
-          let (end, found, sum) = keeps .left region calls fund a created there in
+          let (end, found, sum) = keeps region calls fund a created there in
           let opening-is : remaining a ≡ opening = number-is e in
           omega (arith, opening-is, sum)
 
@@ -86,6 +86,12 @@ module _ (judge : Judge) (fund : Fund) (region : List ℕ) (calls : List Call) (
 
 pub ours-keeps-the-sentence : KeepsTheSentence ours
 ours-keeps-the-sentence = record { left = what-is-left-and-what-was-taken-are-the-opening; windows = a-window-takes-at-most-its-limit }
+
+-- and with it whatever meets demand 2
+pub what-judges-as-ours-keeps-the-sentence : (judge : Judge) → JudgesAsOurs judge → KeepsTheSentence judge
+what-judges-as-ours-keeps-the-sentence judge as-ours =
+    let same : ours ≡ judge = λ i n region call. sym (as-ours n region call) i in
+    subst KeepsTheSentence same ours-keeps-the-sentence
 
 -- ---- what falls to demand 2
 
@@ -123,7 +129,7 @@ module _ (number : ℕ) (refuses : 0 < number) where
   unfolding callValues outcome
   refusing-everything-falls-by-the-first-call-of-B1 n e = let is = number-is (calls-as-named .0) in omega (arith, e, is)
 
--- accepting everything breaks the sentence too, whatever it writes
+-- accepting everything breaks its first half too, whatever it writes
 module _ (writes : ℕ → List ℕ → Call → List ℕ) where
   pub accepting-everything-falls-by-the-second-call-of-B1 : FallsBy (left 60) (spending 0 61) (accepting writes)
   unfolding callValues outcome
@@ -133,7 +139,7 @@ module _ (writes : ℕ → List ℕ → Call → List ℕ) where
   unfolding takenWhere takenBy decrease flooredDifference spending called
   takes-101 = refl
 
-  pub accepting-everything-breaks-the-sentence : KeepsTheSentence (accepting writes) → ⊥
+  pub accepting-everything-breaks-the-sentence : LeftAndTaken (accepting writes) → ⊥
   accepting-everything-breaks-the-sentence keeps =
       let most = takes-at-most-the-opening (accepting writes) sol (left 100) (spending 5 101 ∷ []) left-created 100 (judges-computed .opening) keeps in
       let took = takes-101 in
@@ -154,20 +160,20 @@ unfolding compactValues read
 a-made-up-consumed-count-falls-by-C2 reader made-up e =
     made-up (ap (λ (parsed : ParsedInstructions). parsed .consumed) e ∙ number-is (rest-is (compact-as-named .1 .0)))
 
--- ---- what breaks the sentence
+-- ---- what breaks its first half
 
-pub never-writing-breaks-the-sentence : KeepsTheSentence neverWriting → ⊥
+pub never-writing-breaks-the-sentence : LeftAndTaken neverWriting → ⊥
 never-writing-breaks-the-sentence keeps =
     let sum : 100 + 40 ≡ 100 = adds-up neverWriting sol (left 100) once left-created 100 100 40 (judges-computed .never-writing) keeps in
     omega (arith, sum)
 
 -- at the second decrease: the first alone adds up
-pub settling-the-first-call-alone-breaks-the-sentence : KeepsTheSentence settlingTheFirst → ⊥
+pub settling-the-first-call-alone-breaks-the-sentence : LeftAndTaken settlingTheFirst → ⊥
 settling-the-first-call-alone-breaks-the-sentence keeps =
     let sum : 60 + 80 ≡ 100 = adds-up settlingTheFirst sol (left 100) twice left-created 100 60 80 (judges-computed .settling-twice) keeps in
     omega (arith, sum)
 
--- ---- what breaks its windows' half
+-- ---- what breaks its second half, of windows
 
 -- a judge that says of a call what another says of it, and the same again, takes twice what that one takes once
 taken-twice : (judge other : Judge) (test : List ℕ → Bool) (fund : Fund) (region : List ℕ) (call : Call) (took : ℕ)
@@ -205,8 +211,8 @@ module _ (likes : ℕ → List ℕ → Call → Bool) (second : likes 1 (recurri
   unfolding highest
   small = lit≤ tt
 
-  pub resetting-windows-at-will-breaks-the-sentence : KeepsTheSentence (resetting likes) → ⊥
-  resetting-windows-at-will-breaks-the-sentence keeps =
+  pub resetting-windows-at-will-breaks-its-windows : WithinWindows (resetting likes) → ⊥
+  resetting-windows-at-will-breaks-its-windows keeps =
       let within = is-within (resetting likes) sol fresh twice recurring-created slots-fit 50 (judges-computed .window) small keeps 0 in
       let took : takenAt 0 sol (resetting likes) fresh twice ≡ 40 + 40 = taken-twice (resetting likes) ours _ sol fresh forty 40 (judges-computed .taken-once) said-at-first said-then in
       omega (arith, within, took)

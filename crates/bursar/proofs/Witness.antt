@@ -17,7 +17,7 @@ abbrev pub Adds : Fund → ℕ → ℕ → ℕ → Type 0
 Adds fund opening end took = (sums fund ours (desk 100 50 20 0 0) term ≡ opening ∷ end ∷ took ∷ []) × (end + took ≡ opening)
 
 adds : (fund : Fund) (opening end took : ℕ) → sums fund ours (desk 100 50 20 0 0) term ≡ opening ∷ end ∷ took ∷ [] → Adds fund opening end took
-adds fund opening end took is = (is, adds-up ours fund (desk 100 50 20 0 0) term witness-created opening end took is ours-keeps-the-sentence)
+adds fund opening end took is = (is, adds-up ours fund (desk 100 50 20 0 0) term witness-created opening end took is (ours-keeps-the-sentence .left))
 
 pub sol-adds-up : Adds sol 100 90 10
 sol-adds-up = adds sol 100 90 10 (witness-computed .of-sol)
@@ -39,4 +39,4 @@ small = lit≤ tt
 -- whichever last reset they leave: 15 were taken in the first window, 25 in the second
 pub each-window-of-paper-is-within-its-limit : (slot : ℕ) → takenAt slot (tokens paper) ours (desk 100 50 20 0 0) term ≤ 30
 each-window-of-paper-is-within-its-limit =
-    is-within ours (tokens paper) (desk 100 50 20 0 0) term witness-created slots-fit 30 (witness-computed .window) small ours-keeps-the-sentence
+    is-within ours (tokens paper) (desk 100 50 20 0 0) term witness-created slots-fit 30 (witness-computed .window) small (ours-keeps-the-sentence .windows)
