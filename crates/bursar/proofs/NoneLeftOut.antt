@@ -8,23 +8,21 @@ use Prim.Native.Nat.{ℕ, _+_, _≤_}
 use native.Mathlib.Omega.{arith}
 use borrow.Author.Tests.{eqb-true}
 use lib.Dec.{eqb}
-use lib.ListN.{length, length-take}
 use Rattle.answer.specs.Each.{Each}
+use Rattle.answer.proofs.Each.{each-so}
 use Rattle.key.proofs.Laws.{same-key-refl}
 use Rattle.action.specs.Action.{Action}
 use Rattle.action.specs.Fields.{isToken, isRecurring, keyOf}
-use Rattle.action.proofs.Regular.{Regular, mint-there}
-use Rattle.creation.proofs.Theorems.{stored-is-regular}
+use Rattle.creation.specs.declared.Rule.the-variants.{Length}
+use Rattle.creation.specs.Creation.{keeps}
+use Rattle.creation.proofs.Theorems.{stored-is-formed}
+use Rattle.mints.proofs.Held.{mint-size}
 use Rattle.limit.specs.Limit.{isLimit}
 use Rattle.judge.specs.Judge.{Call, actionsOf}
 use Rattle.bursar.specs.Run.{Created, ours, afterRun, Fund, sol, tokens}
 use Rattle.bursar.specs.Limits.{regionActions, speaksOf, fundOf, isLimitOf, isRecurringOf, firstThat, howMany, amountsIn, limitOf, recurringOf, IsNotLeftOut}
-use Rattle.bursar.proofs.OneCall.{Pair, found-here, found-later, none-found, apart}
+use Rattle.bursar.proofs.OneCall.{Pair, each-keeps, found-here, found-later, none-found, apart}
 use Rattle.bursar.proofs.Theorems.{created-stands, stands-through, limits, recurrings, a-fund-has-one-limit}
-
-each-so : {P Q : Action → Type 0} (l : List Action) → ((a : Action) → P a → Q a) → Each P l → Each Q l
-each-so [] f ps = tt
-each-so (a ∷ l) f ps = (f a (ps .0), each-so l f (ps .1))
 
 each-both : (P Q : Action → Type 0) (l : List Action) → Each P l → Each Q l → Each (λ (a : Action). P a × Q a) l
 each-both P Q [] ps qs = tt
@@ -45,7 +43,7 @@ each-is-first : (own : Action → Action → Bool) (l : List Action) → ((a : A
     → Each (λ (a : Action). own a a ≡ true → firstThat (own a) l ≡ some a) l
 unfolding howMany
 each-is-first own [] few = tt
-each-is-first own (b ∷ l) few = (λ h. found-here (own b) b l h, each-so l later (each-is-first own l fewer))
+each-is-first own (b ∷ l) few = (λ h. found-here (own b) b l h, each-so later l (each-is-first own l fewer))
   where
     fewer : (a : Action) → howMany (own a) l ≤ 1
     fewer a = let all = few a in omega (arith, all)
@@ -57,17 +55,11 @@ each-is-first own (b ∷ l) few = (λ h. found-here (own b) b l h, each-so l lat
         go true e all = absurd (let one = counted (own a) l a (first h) in let two : 1 + howMany (own a) l ≤ 1 = rw e at all in omega (arith, one, two))
         go false e all = found-later (own a) b l e ∙ first h
 
-mint-is-32 : {a : Action} → Regular a → isToken (a .kind) ≡ true → length (keyOf a) ≡ 32
-unfolding keyOf
-mint-is-32 {a} regular token =
-    let there : 32 ≤ length (a .payload) = subst (λ (b : Bool). cond b 32 0 ≤ length (a .payload)) token (mint-there regular) in
-    simp length-take (omega (arith, there))
-
 module _ {s t : ℕ} (pair : Pair s t) where
   -- an action of one of two types speaks of its fund
-  speaks-of-its-own : (a : Action) → Regular a → (eqb (a .kind) s || eqb (a .kind) t) ≡ true → speaksOf s t (fundOf a) a ≡ true
+  speaks-of-its-own : (a : Action) → keeps Length a ≡ true → (eqb (a .kind) s || eqb (a .kind) t) ≡ true → speaksOf s t (fundOf a) a ≡ true
   unfolding speaksOf fundOf
-  speaks-of-its-own a regular is = go (eqb (a .kind) s) (eqb (a .kind) t) refl refl is
+  speaks-of-its-own a sized is = go (eqb (a .kind) s) (eqb (a .kind) t) refl refl is
     where
       go : (x y : Bool) → eqb (a .kind) s ≡ x → eqb (a .kind) t ≡ y → (x || y) ≡ true → speaksOf s t (fundOf a) a ≡ true
       go true y ex ey h =
@@ -76,12 +68,15 @@ module _ {s t : ℕ} (pair : Pair s t) where
       go false true ex ey h =
           let of-tokens : isToken (a .kind) ≡ true = ap isToken (eqb-true _ _ ey) ∙ pair .token in
           ap (λ (b : Bool). speaksOf s t (cond b (tokens (keyOf a)) sol) a) of-tokens
-          ∙ rw (ey, same-key-refl (keyOf a) (mint-is-32 regular of-tokens))
+          ∙ rw (ey, same-key-refl (keyOf a) (mint-size a sized of-tokens))
       go false false ex ey h = absurd (let n : _≡_ {A = ℕ} 0 1 = cc in omega arith)
 
 module _ (region : List ℕ) (calls : List Call) (created : Created region) where
   abbrev After : List ℕ
   After = afterRun ours region calls
+
+  abbrev Sized : Action → Type 0
+  Sized a = keeps Length a ≡ true
 
   abbrev First : (Fund → Action → Bool) → Action → Type 0
   First speaks a = speaks (fundOf a) a ≡ true → firstThat (speaks (fundOf a)) (regionActions After) ≡ some a
@@ -92,13 +87,13 @@ module _ (region : List ℕ) (calls : List Call) (created : Created region) wher
   no-limit-is-left-out =
       let st = stands-through calls region (created-stands region created) in
       let is : regionActions After ≡ st .actions = ap actionsOf (st .stored) in
-      let regulars : Each Regular (regionActions After) = subst (Each Regular) (sym is) (stored-is-regular After (st .actions) (st .bytes) (st .stored) .0) in
+      let sized : Each Sized (regionActions After) = subst (Each Sized) (sym is) (each-keeps Length (st .actions) (stored-is-formed After (st .actions) (st .stored) .1 .lengths)) in
       let one-limit = each-is-first (λ (a : Action). isLimitOf (fundOf a)) (regionActions After) (λ a. a-fund-has-one-limit region calls created (fundOf a) .0) in
       let one-recurring = each-is-first (λ (a : Action). isRecurringOf (fundOf a)) (regionActions After) (λ a. a-fund-has-one-limit region calls created (fundOf a) .1) in
       let both = each-both (First isLimitOf) (First isRecurringOf) (regionActions After) one-limit one-recurring in
-      each-so (regionActions After)
+      each-so
       (λ a facts. (
         λ h. ap amountsIn (facts .1 .0 (speaks-of-its-own limits a (facts .0) h)),
         λ h. ap amountsIn (facts .1 .1 (speaks-of-its-own recurrings a (facts .0) h)),
       ))
-      (each-both Regular (λ (a : Action). First isLimitOf a × First isRecurringOf a) (regionActions After) regulars both)
+      (regionActions After) (each-both Sized (λ (a : Action). First isLimitOf a × First isRecurringOf a) (regionActions After) sized both)

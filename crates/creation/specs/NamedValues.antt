@@ -33,21 +33,10 @@ a3 = 1 ∷ 8 ∷ 0 ∷ 0 ∷ 0 ∷ 0 ∷ 0 ∷ 0 ∷ 0 ∷ 0 ∷ []
 unfoldable pub entry : ℕ → Action
 entry kind = record { kind = kind; expires = 0; payload = replicate 32 7 }
 
--- the 43 bytes of one in a whitelist, and of one in a blacklist
-unfoldable pub whitelistBytes : List ℕ
-whitelistBytes =
-    10
-    ∷ 32 ∷ 0
-    ∷ 0 ∷ 0 ∷ 0 ∷ 0 ∷ 0 ∷ 0 ∷ 0 ∷ 0
-    ∷ 7 ∷ 7 ∷ 7 ∷ 7 ∷ 7 ∷ 7 ∷ 7 ∷ 7
-    ∷ 7 ∷ 7 ∷ 7 ∷ 7 ∷ 7 ∷ 7 ∷ 7 ∷ 7
-    ∷ 7 ∷ 7 ∷ 7 ∷ 7 ∷ 7 ∷ 7 ∷ 7 ∷ 7
-    ∷ 7 ∷ 7 ∷ 7 ∷ 7 ∷ 7 ∷ 7 ∷ 7 ∷ 7
-    ∷ []
-
-unfoldable pub blacklistBytes : List ℕ
-blacklistBytes =
-    11
+-- the 43 bytes of one: its type is 10 in a whitelist, 11 in a blacklist
+unfoldable pub entryBytes : ℕ → List ℕ
+entryBytes kind =
+    kind
     ∷ 32 ∷ 0
     ∷ 0 ∷ 0 ∷ 0 ∷ 0 ∷ 0 ∷ 0 ∷ 0 ∷ 0
     ∷ 7 ∷ 7 ∷ 7 ∷ 7 ∷ 7 ∷ 7 ∷ 7 ∷ 7
@@ -68,7 +57,7 @@ unfoldable pub created : List ℕ → List ℕ
 created s = creation s .number ∷ length s ∷ []
 
 unfoldable pub namedValues : List NamedValue
-unfolding solLimit100 solLimit100Bytes entry whitelistBytes blacklistBytes times created
+unfolding solLimit100 solLimit100Bytes entry entryBytes times created
 namedValues =
     -- A1: the empty region
     record { gives = created []; named = accepted ∷ 0 ∷ [] }
@@ -81,15 +70,15 @@ namedValues =
     -- A4: whitelist, blacklist and two SolLimits
     ∷ record {
       gives = glue (entry programWhitelist ∷ entry programBlacklist ∷ solLimit100 ∷ solLimit100 ∷ []);
-      named = whitelistBytes ++ blacklistBytes ++ solLimit100Bytes ++ solLimit100Bytes;
+      named = entryBytes 10 ++ entryBytes 11 ++ solLimit100Bytes ++ solLimit100Bytes;
     }
     ∷ record {
-      gives = created (whitelistBytes ++ blacklistBytes ++ solLimit100Bytes ++ solLimit100Bytes);
+      gives = created (entryBytes 10 ++ entryBytes 11 ++ solLimit100Bytes ++ solLimit100Bytes);
       named = actionWhitelistBlacklistConflict ∷ 124 ∷ [];
     }
     -- A5: sixteen whitelists, seventeen
-    ∷ record { gives = glue (replicate 16 (entry programWhitelist)); named = times 16 whitelistBytes }
-    ∷ record { gives = created (times 16 whitelistBytes); named = accepted ∷ 688 ∷ [] }
-    ∷ record { gives = glue (replicate 17 (entry programWhitelist)); named = times 17 whitelistBytes }
-    ∷ record { gives = created (times 17 whitelistBytes); named = actionBufferInvalid ∷ 731 ∷ [] }
+    ∷ record { gives = glue (replicate 16 (entry programWhitelist)); named = times 16 (entryBytes 10) }
+    ∷ record { gives = created (times 16 (entryBytes 10)); named = accepted ∷ 688 ∷ [] }
+    ∷ record { gives = glue (replicate 17 (entry programWhitelist)); named = times 17 (entryBytes 10) }
+    ∷ record { gives = created (times 17 (entryBytes 10)); named = actionBufferInvalid ∷ 731 ∷ [] }
     ∷ []
