@@ -1,3 +1,4 @@
 pub mod Adding
+pub mod AsNamed
 pub mod Theorems
 pub mod Totals

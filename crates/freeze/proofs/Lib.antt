@@ -1,1 +1,2 @@
+pub mod AsNamed
 pub mod Freezing

@@ -1,2 +1,3 @@
+pub mod AsNamed
 pub mod Counting
 pub mod Theorems

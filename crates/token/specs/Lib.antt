@@ -1,1 +1,2 @@
+pub mod NamedRecords
 pub mod Tokens

@@ -1,10 +1,10 @@
 -- Token accounts: which records are counted, and their mint, holder and amount.
 -- Assumes nothing.
 use Prim.Native.Nat.{ℕ}
-use mathlib.Core.Bool.{Bool, _&&_, _||_}
+use mathlib.Core.Bool.{Bool, not, _&&_, _||_}
 use mathlib.Core.List.{List, [], _∷_}
-use lib.Dec.{leb}
-use lib.ListN.{length, take, drop}
+use lib.Dec.{eqb, ltb}
+use lib.ListN.{length, getD, take, drop}
 use Rattle.number.specs.Number.{numberAt}
 use Rattle.key.specs.Key.{sameKey}
 use Rattle.account.specs.Record.{Record}
@@ -20,14 +20,29 @@ token2022 =
     6 ∷ 221 ∷ 246 ∷ 225 ∷ 238 ∷ 117 ∷ 143 ∷ 222 ∷ 170 ∷ 164 ∷ 12 ∷ 4 ∷ 223 ∷ 116 ∷ 174 ∷ 240
     ∷ 70 ∷ 137 ∷ 163 ∷ 89 ∷ 77 ∷ 149 ∷ 128 ∷ 12 ∷ 61 ∷ 73 ∷ 196 ∷ 253 ∷ 210 ∷ 164 ∷ 82 ∷ 159 ∷ []
 
--- the bytes of a token account, at least
+-- the bytes of a token account; Token-2022 may put more behind them
 abbrev pub tokenAccountLength : ℕ
 tokenAccountLength = 165
 
--- whether a record is a token account
+-- what stands behind them where the longer record is an account (where it is a mint: 1)
+abbrev pub accountType : ℕ
+accountType = 2
+
+-- the bytes of a multisignature record, which has no such mark
+abbrev pub multisigLength : ℕ
+multisigLength = 355
+
+-- whether data is a token account's under Token-2022: 165 bytes, or more where byte 165 says so and it is no multisignature record
+abbrev pub isToken2022Account : List ℕ → Bool
+isToken2022Account p =
+    eqb (length p) tokenAccountLength
+    || ltb tokenAccountLength (length p) && eqb (getD p tokenAccountLength 0) accountType && not (eqb (length p) multisigLength)
+
+-- whether a record is a token account: under SPL Token exactly 165 bytes
 unfoldable pub isTokenAccount : Record → Bool
 isTokenAccount r =
-    (sameKey (r .owner) splToken || sameKey (r .owner) token2022) && leb tokenAccountLength (length (r .payload))
+    sameKey (r .owner) splToken && eqb (length (r .payload)) tokenAccountLength
+    || sameKey (r .owner) token2022 && isToken2022Account (r .payload)
 
 -- the mint of a token account's data: 0..32
 abbrev pub mintOf : Record → List ℕ

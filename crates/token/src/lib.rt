@@ -8,28 +8,53 @@ use account::record_owner;
 use account::record_payload;
 ghost use mathlib.Core.Path.{_≡_};
 ghost use Rattle.account.specs.Views.{recordAt};
-ghost use Rattle.token.specs.Tokens.{isTokenAccount, mintOf, amountOf, isCounted};
+ghost use Rattle.token.specs.Tokens.{isToken2022Account, isTokenAccount, mintOf, amountOf, isCounted};
 
-const TOKEN_ACCOUNT_MIN_SIZE: usize = 165;
+const TOKEN_ACCOUNT_SIZE: usize = 165;
 
 const TOKEN_OWNER_OFFSET: usize = 32;
 
 const TOKEN_AMOUNT_OFFSET: usize = 64;
 
-// Whether a record is a token account. Whoever counts or freezes records asks here; the length is
-// tested first because it is the cheaper test.
+// What Token-2022 puts behind an account begins with a byte that says whether it is one.
+const ACCOUNT_TYPE_OFFSET: usize = 165;
+
+const ACCOUNT_TYPE: u8 = 2;
+
+const MULTISIG_SIZE: usize = 355;
+
+// Whether data is a token account's under Token-2022. A multisignature record has no byte that says
+// what it is, and what stands there may be anything.
+fn is_token_2022_account(payload: &[u8]) -> bool
+    ensures { λ r. ⌜ r ≡ isToken2022Account (now (payload .entry)) ⌝ }
+{
+    let size = payload.len();
+    if size <= TOKEN_ACCOUNT_SIZE {
+        return size == TOKEN_ACCOUNT_SIZE;
+    }
+    if size == MULTISIG_SIZE {
+        return false;
+    }
+    payload[ACCOUNT_TYPE_OFFSET] == ACCOUNT_TYPE
+}
+
+// Whether a record is a token account by the published layouts. Whoever counts or freezes records
+// asks here; what is too short is answered first because that is the cheaper test.
 pub fn is_token_account(table: &[u8], view: RecordView) -> bool
     ensures { λ r. ⌜ r ≡ isTokenAccount (recordAt (now (table .entry)) view) ⌝ }
 {
     let payload = record_payload(table, view);
-    if payload.len() < TOKEN_ACCOUNT_MIN_SIZE {
+    if payload.len() < TOKEN_ACCOUNT_SIZE {
         return false;
     }
     let owner = record_owner(table, view);
     if key::same_key(owner, &SPL_TOKEN) {
-        return true;
+        return payload.len() == TOKEN_ACCOUNT_SIZE;
     }
-    key::same_key(owner, &TOKEN_2022)
+    if !key::same_key(owner, &TOKEN_2022) {
+        return false;
+    }
+    is_token_2022_account(payload)
 }
 
 // The mint of a token account, or what there is of it.

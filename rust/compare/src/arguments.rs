@@ -20,6 +20,8 @@ compare run [--cases N] [--seed S] [--found FILE]
     smallest case that is found is written to FILE (target/difference.run).
     Then M (3000) cases of every function go to the program `vectors` at PATH,
     else THIMBLEFORD_VECTORS names it.
+    A drawn call with a record that only the published Rust takes for a token
+    account is left out; it says how many are, as `replay` does.
     Fails where an answer differs or a number is never reached.
 
 compare again FILE

@@ -34,6 +34,17 @@ pub struct Call {
 }
 
 impl Call {
+    /// How many records of its tables only the published code takes for token
+    /// accounts. Where a table is malformed no record is looked at.
+    pub fn only_published(&self) -> usize {
+        let tables = [&self.before, &self.after].map(|bytes| table::decode(bytes));
+        let [Some(before), Some(after)] = tables else {
+            return 0;
+        };
+        let records = before.iter().chain(&after);
+        records.filter(|r| table::is_only_published(r)).count()
+    }
+
     /// The call as the C boundary takes it.
     pub fn lent(&self) -> thimbleford::Call<'_> {
         thimbleford::Call {

@@ -137,6 +137,10 @@ fn run(oracle: Oracle, comparison: Comparison) -> Result<bool, Box<dyn Error>> {
 /// Compares the archive on the case of a file.
 fn again(oracle: Oracle, file: &Path) -> Result<bool, Box<dyn Error>> {
     let run: Run = fs::read_to_string(file)?.parse()?;
+    match run.only_published() {
+        0 => {}
+        records => println!("the token rules part on {records} records"),
+    }
     let mut seen = |number| println!("expected {}", compare::numbers::name(number));
     let parting = runner::parting(&mut Published(oracle), &mut Archive, &run, &mut seen);
     match &parting {

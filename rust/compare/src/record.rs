@@ -1,5 +1,6 @@
 //! The recorded sample: cases for the program `vectors` and the lines of the
-//! published Rust, so that the port is tested where the sources are not.
+//! published Rust, which on token accounts is [amended](crate::subjects::Amended),
+//! so that the port is tested where the sources are not.
 
 use std::{fs, io, path::Path};
 
@@ -18,7 +19,8 @@ const SEED: u64 = 1;
 /// and calls.
 fn cases_of(kind: Kind) -> u64 {
     match kind {
-        Kind::Create | Kind::Read | Kind::Judge => 100,
+        Kind::Judge => 130,
+        Kind::Create | Kind::Read => 100,
         Kind::Resolve => 80,
         _ => 64,
     }

@@ -30,10 +30,21 @@ pub struct Difference {
     pub parts: Vec<(&'static str, String)>,
 }
 
+/// What was drawn and not compared: the token rules part on some of its records.
+#[derive(Clone, Copy, Debug, Default, PartialEq, Eq)]
+pub struct LeftOut {
+    /// The calls.
+    pub calls: usize,
+    /// The records of their tables that only the published code takes for token
+    /// accounts.
+    pub records: usize,
+}
+
 /// The result of a comparison.
 pub struct Report {
     domains: Vec<Domain>,
     answered: BTreeMap<(&'static str, &'static str), u64>,
+    left_out: BTreeMap<&'static str, LeftOut>,
     kept: Vec<Difference>,
     differences: u64,
     smallest: Option<Run>,
@@ -45,6 +56,7 @@ impl Report {
         Self {
             domains,
             answered: BTreeMap::new(),
+            left_out: BTreeMap::new(),
             kept: Vec::new(),
             differences: 0,
             smallest: None,
@@ -54,6 +66,18 @@ impl Report {
     /// Counts an expected answer.
     pub fn count(&mut self, function: &'static str, answer: &'static str) {
         *self.answered.entry((function, answer)).or_default() += 1;
+    }
+
+    /// Counts calls that are left out, and the records that they are left out for.
+    pub fn leave_out(&mut self, function: &'static str, calls: usize, records: usize) {
+        let left_out = self.left_out.entry(function).or_default();
+        left_out.calls += calls;
+        left_out.records += records;
+    }
+
+    /// What was left out.
+    pub fn left_out(&self, function: &'static str) -> LeftOut {
+        self.left_out.get(function).copied().unwrap_or_default()
     }
 
     /// Counts a difference, and keeps it if it is among the first.
@@ -107,6 +131,12 @@ impl fmt::Display for Report {
             for answer in &domain.answers {
                 let times = self.answered(domain.function, answer);
                 writeln!(f, "  {times:>10}  {answer}")?;
+            }
+            if let Some(LeftOut { calls, records }) = self.left_out.get(domain.function) {
+                writeln!(
+                    f,
+                    "  {calls:>10}  left out: the token rules part on {records} records"
+                )?;
             }
         }
         for difference in &self.kept {

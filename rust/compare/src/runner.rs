@@ -81,15 +81,17 @@ pub fn parting(
 
 /// The smallest run that is found on which two subjects part, from where they
 /// do. A subject has no memory, so the one call at which they part is enough.
+/// What the comparison leaves out is not shown in its place.
 fn smallest(expected: &mut dyn Subject, subject: &mut dyn Subject, parting: Parting) -> Run {
     shrink::smallest(parting.at, &mut |run| {
-        self::parting(expected, subject, run, &mut |_| {}).is_some()
+        run.only_published() == 0 && self::parting(expected, subject, run, &mut |_| {}).is_some()
     })
 }
 
 /// Compares a subject with the one that is expected to be right: on so many
 /// cases of creation, on as many judged calls, and on runs that have as many
-/// calls together.
+/// calls together. A run with a record that only the published code takes for a
+/// token account is left out, and counted.
 pub fn compare(
     expected: &mut dyn Subject,
     subject: &mut dyn Subject,
@@ -117,6 +119,11 @@ pub fn compare(
                 break;
             }
             let run = draw(&mut Chance::of_case(seed, function, case));
+            let only_published = run.only_published();
+            if only_published > 0 {
+                report.leave_out(function, run.calls.len(), only_published);
+                continue;
+            }
             let mut count = |number| report.count(function, numbers::name(number));
             let parting = parting(expected, subject, &run, &mut count);
             done += run.calls.len().max(1) as u64;

@@ -10,7 +10,7 @@ use thimbleford::Refusal;
 use crate::{
     calls::Call,
     numbers::{BAD_REGION, BAD_TABLE, INVALID_INSTRUCTIONS},
-    region, table,
+    region, table, Key,
 };
 
 /// Something that creates and judges.
@@ -71,6 +71,35 @@ impl Subject for Published {
         self.0.judge(region, &call)
     }
 }
+
+/// The published code with document 02's token accounts (W-204): a record that
+/// it alone takes for one is handed over under an owner that is no token program.
+/// Where there is none, it is the published code.
+#[derive(Clone, Copy)]
+pub struct Amended(pub Published);
+
+impl Subject for Amended {
+    fn create(&mut self, region: &[u8]) -> u32 {
+        self.0.create(region)
+    }
+
+    fn judge(&mut self, region: &mut [u8], call: &Call) -> u32 {
+        let mut call = call.clone();
+        for bytes in [&mut call.before, &mut call.after] {
+            let Some(mut records) = table::decode(bytes) else {
+                continue;
+            };
+            for record in records.iter_mut().filter(|r| table::is_only_published(r)) {
+                record.owner = NO_TOKEN_PROGRAM;
+            }
+            *bytes = table::encode(&records);
+        }
+        self.0.judge(region, &call)
+    }
+}
+
+/// An owner that is no token program.
+const NO_TOKEN_PROGRAM: Key = [0; 32];
 
 /// The port behind its C boundary, linked into this process.
 #[derive(Clone, Copy)]

@@ -7,8 +7,14 @@ use crate::{bytes::Cursor, Key};
 /// The most records that a table may have.
 pub const MAX_RECORDS: usize = 64;
 
-/// The least data of a token account.
+/// The data of a token account. Token-2022 may put more behind it.
 pub const TOKEN_ACCOUNT: usize = 165;
+
+/// What stands at [`TOKEN_ACCOUNT`] in a longer account of Token-2022.
+pub const ACCOUNT_TYPE: u8 = 2;
+
+/// The data of a multisignature record.
+pub const MULTISIG: usize = 355;
 
 /// The place of a token account's amount in its data.
 pub const AMOUNT: usize = 64;
@@ -59,13 +65,31 @@ pub fn decode(bytes: &[u8]) -> Option<Vec<Record>> {
     cursor.is_done().then_some(records)
 }
 
+/// Whether a record is a token account by document 02's W-204.
+pub fn is_token_account(record: &Record) -> bool {
+    let len = record.data.len();
+    let says_so = || record.data.get(TOKEN_ACCOUNT) == Some(&ACCOUNT_TYPE);
+    match record.owner {
+        SPL_TOKEN => len == TOKEN_ACCOUNT,
+        TOKEN_2022 => len == TOKEN_ACCOUNT || len != MULTISIG && says_so(),
+        _ => false,
+    }
+}
+
+/// Whether only the published code takes a record for a token account: it asks
+/// for one of the two programs and 165 bytes or more. No record is one by W-204
+/// alone.
+pub fn is_only_published(record: &Record) -> bool {
+    let token_program = [SPL_TOKEN, TOKEN_2022].contains(&record.owner);
+    token_program && record.data.len() >= TOKEN_ACCOUNT && !is_token_account(record)
+}
+
 /// The mint and the amount of a counted token account.
 ///
 /// The generator aims with it and the runner's tests are made with it. No
 /// expected answer comes from it.
 pub fn counted(record: &Record, vault: &Key) -> Option<(Key, u64)> {
-    let token_program = [SPL_TOKEN, TOKEN_2022].contains(&record.owner);
-    if !token_program || record.data.len() < TOKEN_ACCOUNT {
+    if !is_token_account(record) {
         return None;
     }
     let mut cursor = Cursor::new(&record.data);
@@ -121,7 +145,7 @@ mod tests {
         // Mint and vault are both the key of twos, and so is the amount.
         let (mint, vault) = ([2; 32], [2; 32]);
         let amount = u64::from_le_bytes([2; 8]);
-        let two = [record(SPL_TOKEN, 165), record(TOKEN_2022, 355)];
+        let two = [record(SPL_TOKEN, 165), record(TOKEN_2022, 356)];
         assert_eq!(balance(&two, &vault, &mint), 2 * amount);
         let none = [record([3; 32], 165), record(SPL_TOKEN, 164)];
         assert_eq!(balance(&none, &vault, &mint), 0);

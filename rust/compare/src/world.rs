@@ -3,7 +3,9 @@
 
 use crate::{
     chance::Chance,
-    table::{Record, AMOUNT, MAX_RECORDS, SPL_TOKEN, TOKEN_2022, TOKEN_ACCOUNT},
+    table::{
+        self, Record, ACCOUNT_TYPE, AMOUNT, MAX_RECORDS, SPL_TOKEN, TOKEN_2022, TOKEN_ACCOUNT,
+    },
     Key,
 };
 
@@ -18,6 +20,9 @@ pub struct World {
     /// The mints, two of them alike but for one byte.
     pub mints: [Key; 3],
     keys: Vec<Key>,
+    /// Whether records are drawn that only the published code takes for token
+    /// accounts.
+    strays: bool,
 }
 
 impl World {
@@ -30,6 +35,7 @@ impl World {
             vault: chance.key(),
             mints: [mint, chance.near(&mint), chance.key()],
             keys,
+            strays: chance.one_in(6),
         }
     }
 
@@ -88,7 +94,12 @@ impl World {
         data[32..AMOUNT].copy_from_slice(&holder);
         data[AMOUNT..AMOUNT + 8].copy_from_slice(&amount(chance).to_le_bytes());
         data.truncate(len);
-        Record { key, owner, data }
+        let mut record = Record { key, owner, data };
+        mark(chance, &mut record);
+        if !self.strays && table::is_only_published(&record) {
+            record.data.truncate(TOKEN_ACCOUNT);
+        }
+        record
     }
 
     /// A table after: other amounts, now and then another order, and once in
@@ -138,6 +149,7 @@ impl World {
             4 => {
                 let more = 1 + chance.below(200);
                 record.data.extend(chance.bytes(more));
+                mark(chance, record);
             }
             _ => {
                 let any = chance.below(TOKEN_ACCOUNT);
@@ -147,6 +159,16 @@ impl World {
                 }
             }
         }
+    }
+}
+
+/// Has a record that is longer than a token account say that it is one, or not.
+fn mark(chance: &mut Chance, record: &mut Record) {
+    if let Some(byte) = record.data.get_mut(TOKEN_ACCOUNT) {
+        *byte = match chance.below(8) {
+            stray @ (0 | 1 | 3) => stray as u8,
+            _ => ACCOUNT_TYPE,
+        };
     }
 }
 

@@ -7,9 +7,11 @@ use compare::{
     creation,
     numbers::{self, CREATION, JUDGING, RUNNING},
     region,
+    report::LeftOut,
     runner::{self, CREATE, JUDGE, RUN},
     stream,
     subjects::{Published, Subject},
+    table::{self, Record, TOKEN_ACCOUNT},
     vectors::{answer, draw, Kind, KINDS},
 };
 use oracle::Oracle;
@@ -32,7 +34,7 @@ fn says_that_the_comparison_is_not_run() {
 #[cfg_attr(not(oracle_sources), ignore)]
 fn every_number_is_answered_often() {
     let mut right = published();
-    let report = runner::compare(&mut right.clone(), &mut right, 1, CASES);
+    let report = runner::compare(&mut right.clone(), &mut right, 1, 2 * CASES);
     for (function, numbers) in [(CREATE, &CREATION[..]), (JUDGE, &JUDGING), (RUN, &RUNNING)] {
         // The calls of a run have much in common.
         let often = CASES / if function == RUN { 300 } else { 100 };
@@ -41,6 +43,43 @@ fn every_number_is_answered_often() {
             assert!(times > often, "{report}");
         }
     }
+}
+
+/// The token rules agree on most calls that are drawn, among them calls with
+/// longer accounts of Token-2022, and part on some.
+#[test]
+fn longer_accounts_are_compared_and_some_calls_are_left_out() {
+    let (mut compared, mut longer) = (0, 0);
+    for case in 0..CASES {
+        let (_, call) = calls::draw(&mut Chance::of_case(1, JUDGE, case));
+        if call.only_published() > 0 {
+            continue;
+        }
+        compared += 1;
+        let tables = [&call.before, &call.after].map(|bytes| table::decode(bytes));
+        let mut records = tables.into_iter().flatten().flatten();
+        let is_longer = |r: Record| table::is_token_account(&r) && r.data.len() > TOKEN_ACCOUNT;
+        longer += u64::from(records.any(is_longer));
+    }
+    assert!(
+        (CASES * 3 / 4..CASES * 19 / 20).contains(&compared),
+        "{compared}"
+    );
+    assert!(longer > CASES / 10, "{longer}");
+}
+
+#[test]
+#[cfg_attr(not(oracle_sources), ignore)]
+fn what_is_left_out_is_counted() {
+    let mut right = published();
+    let report = runner::compare(&mut right.clone(), &mut right, 1, CASES);
+    for function in [JUDGE, RUN] {
+        let LeftOut { calls, records } = report.left_out(function);
+        assert!(calls > 0 && records > 0, "{report}");
+        let line = format!("{calls:>10}  left out: the token rules part on {records} records");
+        assert!(report.to_string().contains(&line), "{report}");
+    }
+    assert_eq!(report.left_out(CREATE), LeftOut::default());
 }
 
 #[test]

@@ -1,15 +1,19 @@
 //! The rows of docs/DIFFERENCES.md that both sides can be run on, each on the
 //! smallest input that shows it: what the published code does, beside the
-//! archive, which refuses the region with 15 and leaves it as it was.
+//! archive. A region that is not in stored form the archive refuses with 15 and
+//! leaves as it was.
 
-use std::panic::{catch_unwind, AssertUnwindSafe};
+use std::{
+    panic::{catch_unwind, AssertUnwindSafe},
+    slice,
+};
 
 use compare::{
     calls::Call,
     numbers::BAD_REGION,
     region::{lasting, Recurring, Rule},
     subjects::{Archive, Subject},
-    table::{self, Record, AMOUNT, SPL_TOKEN, TOKEN_ACCOUNT},
+    table::{self, Record, AMOUNT, SPL_TOKEN, TOKEN_2022, TOKEN_ACCOUNT},
     Key,
 };
 use oracle::{Instruction, Oracle, Part};
@@ -35,10 +39,17 @@ fn run<T>(published: impl FnOnce() -> T) -> Result<T, String> {
 /// The published code's number and the region that it leaves, or what it says
 /// where it panics. The archive's answer is 15.
 fn judged(region: &[u8], call: &Call) -> Result<(u32, Vec<u8>), String> {
-    let mut left = region.to_vec();
-    assert_eq!(Archive.judge(&mut left, call), BAD_REGION);
-    assert_eq!(left, region);
+    assert_eq!(by_archive(region, call), (BAD_REGION, region.to_vec()));
+    by_published(region, call)
+}
 
+fn by_archive(region: &[u8], call: &Call) -> (u32, Vec<u8>) {
+    let mut left = region.to_vec();
+    (Archive.judge(&mut left, call), left)
+}
+
+fn by_published(region: &[u8], call: &Call) -> Result<(u32, Vec<u8>), String> {
+    let mut left = region.to_vec();
     let records = |bytes| table::decode(bytes).expect("a well-formed table");
     let (before, after) = (records(&call.before), records(&call.after));
     let call = oracle::Call {
@@ -55,22 +66,29 @@ fn judged(region: &[u8], call: &Call) -> Result<(u32, Vec<u8>), String> {
     Ok((number, left))
 }
 
+/// A record of the vault that holds so many of the mint's tokens: its owning
+/// program, the length of its data, and its byte 165 where there is one.
+fn holding(owner: Key, len: usize, mark: u8, amount: u64) -> Record {
+    let mut data = vec![0; len];
+    data[..32].copy_from_slice(&MINT);
+    data[32..64].copy_from_slice(&VAULT);
+    data[AMOUNT..AMOUNT + 8].copy_from_slice(&amount.to_le_bytes());
+    if let Some(byte) = data.get_mut(TOKEN_ACCOUNT) {
+        *byte = mark;
+    }
+    Record {
+        key: [1; 32],
+        owner,
+        data,
+    }
+}
+
 /// A call without instructions on tables that hold so many of the mint's tokens.
 fn call(slot: u64, lamports: u64, tokens: [u64; 2]) -> Call {
-    let holding = |amount: u64| {
-        let mut data = vec![0; TOKEN_ACCOUNT];
-        data[..32].copy_from_slice(&MINT);
-        data[32..64].copy_from_slice(&VAULT);
-        data[AMOUNT..AMOUNT + 8].copy_from_slice(&amount.to_le_bytes());
-        table::encode(&[Record {
-            key: [1; 32],
-            owner: SPL_TOKEN,
-            data,
-        }])
-    };
+    let table = |amount| table::encode(&[holding(SPL_TOKEN, TOKEN_ACCOUNT, 0, amount)]);
     Call {
-        before: holding(tokens[0]),
-        after: holding(tokens[1]),
+        before: table(tokens[0]),
+        after: table(tokens[1]),
         instructions: vec![0],
         vault: VAULT,
         slot,
@@ -165,6 +183,40 @@ fn a_window_of_0() {
     };
     assert_eq!(judged(&window(0), &taking(1)), Ok((0, window(1))));
     panics(judged(&window(0), &call(1, 1, [0, 0])), "divide by zero");
+}
+
+/// Records that are no token accounts by the published layouts, each with what
+/// the published code makes of it: it counts 1 token less, misses the account
+/// that is gone, and finds an account that became it.
+#[test]
+#[cfg_attr(not(oracle_sources), ignore)]
+fn records_that_only_the_published_code_takes_for_token_accounts() {
+    let limit = |left| lasting(&[Rule::TokenLimit(MINT, left)]);
+    let plain = holding(SPL_TOKEN, TOKEN_ACCOUNT, 0, 1);
+    for (owner, len, mark) in [
+        (SPL_TOKEN, 166, 2),
+        (TOKEN_2022, 166, 0),
+        (TOKEN_2022, 166, 1),
+        (TOKEN_2022, 166, 3),
+        (TOKEN_2022, 355, 2),
+    ] {
+        let [one, none] = [1, 0].map(|amount| holding(owner, len, mark, amount));
+        let ends = |before: &[Record], after: &[Record]| {
+            let call = Call {
+                before: table::encode(before),
+                after: table::encode(after),
+                ..taking(0)
+            };
+            let published = by_published(&limit(1), &call).expect("it does not panic");
+            (published, by_archive(&limit(1), &call))
+        };
+        let taken = ends(slice::from_ref(&one), &[none]);
+        assert_eq!(taken, ((0, limit(0)), (0, limit(1))));
+        let gone = ends(slice::from_ref(&one), &[]);
+        assert_eq!(gone, ((12, limit(1)), (0, limit(1))));
+        let became = ends(slice::from_ref(&plain), &[one]);
+        assert_eq!(became, ((0, limit(1)), (12, limit(1))));
+    }
 }
 
 /// The port's writer, which answers 16, does not pass the C boundary: it is

@@ -1,11 +1,12 @@
 -- `token::is_token_account` meets its contract: each test is one of the definition's.
 -- Assumes nothing.
 use mathlib.Core.Path.{sym, _∙_}
-use Prim.Native.Nat.{_<_, _≤_}
+use Prim.Native.Nat.{_<_}
 use native.Mathlib.Omega.{arith}
+use borrow.Author.Tests.{not-true, not-false}
 use lib.ListN.{length}
 use Rattle.account.specs.Views.{recordAt}
-use Rattle.token.proofs.Counting.{no-token-account, spl-account, not-spl-account}
+use Rattle.token.proofs.Counting.{too-short, spl-account, no-token-program, token-2022-account}
 use borrow.Author.Needs.{needs}
 use Rattle.token.proofs.is_token_account.Statement.{statement}
 use Rattle.token.proofs.is_token_account.Tie as tie
@@ -18,7 +19,7 @@ returns c =
     let start = c .before .before .before .args in
     let r = recordAt (start .table .now) (start .view) in
     let short : length (r .payload) < 165 = rw (← c .before .record-payload .ensures) (omega arith) in
-    sym (no-token-account r short)
+    sym (too-short r short)
 
 record-owner-requires : tie.Need-record-owner-requires
 record-owner-requires c κs = search needs
@@ -31,11 +32,9 @@ same-key-requires c κs = search needs
 
 returns-2 : tie.Need-returns-2
 returns-2 c =
-    let start = c .before .before .before .before .before .before .before .args in
-    let r = recordAt (start .table .now) (start .view) in
-    let long : 165 ≤ length (r .payload) = rw (← c .before .before .before .before .before .record-payload .ensures) (omega arith) in
     let owner = c .before .before .before .record-owner in
-    sym (spl-account r long (rw (owner .ensures) at (sym (c .before .same-key .ensures) ∙ c .if2 .taken)))
+    let payload = c .before .before .before .before .before .record-payload in
+    rw (payload .ensures) (sym (spl-account _ (rw (owner .ensures) at (sym (c .before .same-key .ensures) ∙ c .if2 .taken))))
 
 slice-aggregate-same-key-2 : tie.Need-slice-aggregate-same-key-2
 slice-aggregate-same-key-2 c = search needs
@@ -45,12 +44,26 @@ same-key-requires-2 c κs = search needs
 
 returns-3 : tie.Need-returns-3
 returns-3 c =
-    let before = c .before .before .before in
-    let start = before .before .before .before .before .before .before .args in
-    let r = recordAt (start .table .now) (start .view) in
-    let long : 165 ≤ length (r .payload) = rw (← before .before .before .before .before .record-payload .ensures) (omega arith) in
-    let owner = before .before .before .record-owner in
-    c .same-key2 .ensures ∙ rw (owner .ensures) (sym (not-spl-account r long (rw (owner .ensures) at (sym (before .same-key .ensures) ∙ c .before .before .if2 .left))))
+    let first = c .before .before .before in
+    let owner = first .before .before .before .record-owner in
+    sym
+    (no-token-program _ (rw (owner .ensures) at (sym (first .before .same-key .ensures) ∙ first .if2 .left))
+    (rw (owner .ensures) at (sym (c .before .same-key2 .ensures) ∙ not-true _ (c .if3 .taken))))
+
+is-token-2022-account-requires : tie.Need-is-token-2022-account-requires
+is-token-2022-account-requires c κs = search needs
+
+returns-4 : tie.Need-returns-4
+returns-4 c =
+    let second = c .before in
+    let first = second .before .before .before in
+    let owner = first .before .before .before .record-owner in
+    let payload = first .before .before .before .before .before .record-payload in
+    c .is-token-2022-account .ensures
+    ∙ rw (payload .ensures)
+    (sym
+    (token-2022-account _ (rw (owner .ensures) at (sym (first .before .same-key .ensures) ∙ first .if2 .left))
+    (rw (owner .ensures) at (sym (second .before .same-key2 .ensures) ∙ not-false _ (second .if3 .left)))))
 
 pub is-token-account-spec : {M : Type 1} → statement M
 is-token-account-spec =
@@ -64,4 +77,6 @@ is-token-account-spec =
     returns-2
     slice-aggregate-same-key-2
     same-key-requires-2
-    returns-3)
+    returns-3
+    is-token-2022-account-requires
+    returns-4)

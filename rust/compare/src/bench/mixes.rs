@@ -86,15 +86,16 @@ pub fn growth(seed: u64) -> Vec<Mix> {
     sizes.concat().into_iter().chain(mints).map(mix).collect()
 }
 
-/// Calls of the comparison in the domain of the published code whose answers
-/// are wanted.
+/// Calls of the comparison in the domain of the published code, with no record
+/// that it alone takes for a token account, whose answers are wanted.
 fn drawn(oracle: &Oracle, seed: u64, wanted: fn(u32) -> bool) -> Vec<Timed> {
     let mut published = Published(*oracle);
     let cases = (0..).map(|case| calls::draw(&mut Chance::of_case(seed, BENCH, case)));
     let timed = cases.filter_map(|(region, call)| {
         let number = published.judge(&mut region.clone(), &call);
+        let agreed = call.only_published() == 0;
         let timed = timed(region, call)?;
-        (wanted(number) && published.is_stored(&timed.region)).then_some(timed)
+        (agreed && wanted(number) && published.is_stored(&timed.region)).then_some(timed)
     });
     timed.take(DRAWN).collect()
 }

@@ -1,7 +1,7 @@
 //! What document 01's 'Replay program' says of an input, read from the input's
 //! bytes alone. The numbers are a subject's.
 
-use std::fmt;
+use std::{fmt, iter};
 
 use super::frame::{read_opening, Head, MAX_PARTS};
 use crate::{bytes::Cursor, calls::Call, subjects::Subject};
@@ -85,6 +85,15 @@ impl Reading {
             calls,
             ending,
         }
+    }
+}
+
+/// The calls of an input that are read, whatever creation says of its region.
+pub fn calls(input: &[u8]) -> Vec<Call> {
+    let mut input = Cursor::new(input);
+    match read_opening(&mut input) {
+        Some(_) => iter::from_fn(|| next(&mut input).ok()).collect(),
+        None => vec![],
     }
 }
 

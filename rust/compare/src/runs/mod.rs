@@ -17,3 +17,11 @@ pub struct Run {
     /// The calls in order.
     pub calls: Vec<Call>,
 }
+
+impl Run {
+    /// How many records of its calls only the published code takes for token
+    /// accounts.
+    pub fn only_published(&self) -> usize {
+        self.calls.iter().map(Call::only_published).sum()
+    }
+}

@@ -2,30 +2,49 @@
 
 use oracle::Oracle;
 
-use super::named;
+use super::{named, token_accounts, Case, Kind};
 use crate::{
     bytes::{hex, Cursor},
     calls::{self, Call},
     chance::Chance,
     numbers,
     replay::frame::{opening, read_opening, Head, MAX_PARTS},
-    subjects::{Published, Subject},
+    subjects::{Amended, Published, Subject},
 };
 
 /// The line of a judged call, and its sort.
 pub fn answer(oracle: &Oracle, payload: Cursor) -> Option<(String, &'static str)> {
     let (mut region, call) = decode(payload)?;
-    let number = Published(*oracle).judge(&mut region, &call);
+    let number = Amended(Published(*oracle)).judge(&mut region, &call);
     let line = format!("{number} {}", hex(&region));
     Some((line, numbers::name(number)))
 }
 
 /// The named calls, and after those by chance.
 pub fn nth(chance: &mut Chance, number: u64) -> Vec<u8> {
-    match named::calls().into_iter().nth(number as usize) {
-        Some((_, region, call)) => encode(&region, &call),
+    match named().get(number as usize) {
+        Some((region, call)) => encode(region, call),
         None => draw(chance),
     }
+}
+
+fn named() -> Vec<(Vec<u8>, Call)> {
+    let calls = named::calls()
+        .into_iter()
+        .map(|(_, region, call)| (region, call));
+    let on_accounts = token_accounts::calls().into_iter();
+    calls
+        .chain(on_accounts.map(|(_, region, call)| (region, call)))
+        .collect()
+}
+
+/// How many records a drawn case is left out for: those that only the published
+/// code takes for token accounts.
+pub fn left_out(number: u64, case: &Case) -> usize {
+    if case.kind != Kind::Judge || number < named().len() as u64 {
+        return 0;
+    }
+    decode(Cursor::new(&case.payload)).map_or(0, |(_, call)| call.only_published())
 }
 
 /// A region and a call that the program reads.

@@ -10,6 +10,7 @@ mod indexes;
 mod judging;
 mod named;
 mod program;
+mod token_accounts;
 mod writing;
 
 pub use answers::{answer, Answer};

@@ -10,9 +10,9 @@ use crate::{
     Key,
 };
 
-const VAULT: Key = [9; 32];
+pub const VAULT: Key = [9; 32];
 
-const MINT: Key = [7; 32];
+pub const MINT: Key = [7; 32];
 
 /// A program that is no token program.
 const THIRD_PROGRAM: Key = [5; 32];
@@ -146,6 +146,11 @@ pub fn calls() -> Vec<(&'static str, Vec<u8>, Call)> {
             lasting(&both),
             call(&[whole(60, 50)]),
         ),
+        (
+            "more than TokenMaxPerTx",
+            lasting(&[Rule::TokenMaxPerTx(MINT, 10)]),
+            call(&[whole(60, 49)]),
+        ),
         ("an account gone after", limit(1), gone),
     ]
 }
@@ -264,6 +269,7 @@ mod tests {
             ("a third program", 0, 6),
             ("both token programs and a third", 0, 6),
             ("TokenLimit and TokenMaxPerTx on one mint", 0, 0),
+            ("more than TokenMaxPerTx", 9, 10),
             ("an account gone after", 12, 1),
         ];
         assert_eq!(ends, expected);

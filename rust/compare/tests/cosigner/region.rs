@@ -119,8 +119,8 @@ fn lent(call: &Call) -> thimbleford::Call<'_> {
 fn after_each_call_of_a_run_the_amounts_are_those_that_the_published_code_left() {
     let mut right = published();
     let (mut accepted, mut refused) = (0, 0);
-    for case in 0..60 {
-        let run = runs::draw(&mut Chance::of_case(3, "run", case));
+    let drawn = (0..60).map(|case| (case, runs::draw(&mut Chance::of_case(3, "run", case))));
+    for (case, run) in drawn.filter(|(_, run)| run.only_published() == 0) {
         let (mut region, mut expected) = (run.region.clone(), run.region);
         for call in &run.calls {
             let answer = thimbleford::judge(&mut region, &lent(call));

@@ -7,7 +7,7 @@ use compare::{
     region::{self, Action, Rule},
     runner,
     subjects::{Published, Subject},
-    table::{self, Record},
+    table::{self, Record, TOKEN_ACCOUNT},
 };
 
 use super::{is_found, published, with_actions};
@@ -58,6 +58,30 @@ fn a_field_not_frozen() {
                 other.data.clone_from(&record.data);
             }
         })
+    });
+}
+
+/// Accounts of Token-2022 with more behind them are handed over under an owner
+/// that is no token program.
+#[test]
+#[cfg_attr(not(oracle_sources), ignore)]
+fn a_longer_account_that_is_not_counted() {
+    is_found(|right, region, call| {
+        let plain_only = |bytes: &[u8]| {
+            let Some(mut records) = table::decode(bytes) else {
+                return bytes.to_vec();
+            };
+            for record in records.iter_mut().filter(|r| r.data.len() > TOKEN_ACCOUNT) {
+                record.owner = [0; 32];
+            }
+            table::encode(&records)
+        };
+        let call = Call {
+            before: plain_only(&call.before),
+            after: plain_only(&call.after),
+            ..call.clone()
+        };
+        right.judge(region, &call)
     });
 }
 

@@ -1,6 +1,7 @@
-//! The archive on damaged inputs, where the published code has no answer to
-//! compare with: the answer is one of the table, a refusal changed no byte, and
-//! both are what a second reading of document 01 says.
+//! The archive on damaged inputs and on every record, where the published code
+//! has no answer to compare with or another: the answer is one of the table, a
+//! refusal changed no byte, and both are what a second reading of the documents
+//! says.
 
 mod reading;
 
@@ -13,8 +14,10 @@ use compare::{
     creation,
     damage::damage,
     numbers::{CREATION, JUDGING, WRITING},
-    region,
+    region::{self, Rule},
+    table::{self, Record, SPL_TOKEN, TOKEN_2022},
     vectors::{self, Kind},
+    Key,
 };
 use oracle::Oracle;
 use reading::{Entry, Inputs};
@@ -101,6 +104,55 @@ fn damaged_calls() {
     }
 }
 
+/// Records of every length under both token programs and a third, with each
+/// byte 165 near those that say something: in a sum, and on both sides of the
+/// freeze.
+#[test]
+fn records_of_every_length() {
+    let (vault, mint) = ([9; 32], [7; 32]);
+    let record = |owner: Key, len: usize, mark: u8, amount: u64| {
+        let mut data = [&mint[..], &vault, &amount.to_le_bytes()].concat();
+        data.resize(len, 0);
+        if let Some(byte) = data.get_mut(165) {
+            *byte = mark;
+        }
+        table::encode(&[Record {
+            key: [1; 32],
+            owner,
+            data,
+        }])
+    };
+    let region = region::lasting(&[Rule::TokenLimit(mint, 5)]);
+    let mut met = BTreeMap::new();
+    let mut end = |before: Vec<u8>, after: Vec<u8>| {
+        let call = Inputs {
+            before,
+            after,
+            instructions: vec![0],
+            vault: vault.to_vec(),
+            slot: 1,
+            lamports_before: 0,
+            lamports_after: 0,
+            gross: 0,
+        };
+        *met.entry(judged(&region, &call)).or_insert(0) += 1;
+    };
+    let plain = record(SPL_TOKEN, 165, 0, 6);
+    for owner in [SPL_TOKEN, TOKEN_2022, [5; 32]] {
+        for len in 0..=800 {
+            for mark in 0..=4 {
+                let is = |amount| record(owner, len, mark, amount);
+                end(is(6), is(0));
+                end(is(6), table::encode(&[]));
+                end(plain.clone(), is(6));
+            }
+        }
+    }
+    for number in [0, 10, 12] {
+        assert!(met.get(&number) >= Some(&OFTEN), "{number}: {met:?}");
+    }
+}
+
 #[test]
 fn vault_keys_of_other_lengths() {
     let (actions, call) = calls::sound(&mut Chance::new(1));
@@ -115,15 +167,24 @@ fn vault_keys_of_other_lengths() {
     }
 }
 
-/// A call that is accepted, with several actions, records and instructions.
+/// A call that is accepted, with several actions, records and instructions, and
+/// an account that is frozen.
 fn accepted() -> (Vec<u8>, Inputs) {
     let drawn = (0..).map(|case| calls::sound(&mut Chance::of_case(1, "accepted", case)));
     let wanted = drawn.filter(|(actions, call)| {
         actions.len() > 4 && call.instructions[0] > 1 && (800..3000).contains(&call.before.len())
     });
     let mut cases = wanted.map(|(actions, call)| (region::encode(&actions), inputs(call)));
+    let freezes = |region: &[u8], inputs: &Inputs| {
+        let after = table::encode(&[]);
+        let gone = Inputs {
+            after,
+            ..inputs.clone()
+        };
+        reading::judge(region, &gone).0 == 12
+    };
     cases
-        .find(|(region, inputs)| reading::judge(region, inputs).0 == 0)
+        .find(|(region, inputs)| reading::judge(region, inputs).0 == 0 && freezes(region, inputs))
         .unwrap()
 }
 

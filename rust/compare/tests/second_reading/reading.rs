@@ -1,5 +1,6 @@
-//! Document 01, read a second time: written from its text alone, on any bytes,
-//! and as short as that allows. It shares nothing with the runner.
+//! Document 01 and the requests of document 02 that were granted, read a second
+//! time: written from their text alone, on any bytes, and as short as that
+//! allows. It shares nothing with the runner.
 
 /// What a judged call is given besides the region.
 #[derive(Clone)]
@@ -158,9 +159,13 @@ struct Record {
 }
 
 impl Record {
+    /// W-204.
     fn is_token_account(&self) -> bool {
-        let owners: [&[u8]; 2] = [&SPL_TOKEN, &TOKEN_2022];
-        owners.contains(&&self.owner[..]) && self.data.len() >= 165
+        match self.data.len() {
+            165 => self.owner == SPL_TOKEN || self.owner == TOKEN_2022,
+            0..=164 | 355 => false,
+            _ => self.owner == TOKEN_2022 && self.data[165] == 2,
+        }
     }
 
     fn is_counted(&self, vault: &[u8]) -> bool {
