@@ -5,7 +5,8 @@ use key::Key;
 use keys::Keys;
 use keys::MAX_KEYS;
 use token::amount_of;
-use token::is_counted;
+use token::is_held_by;
+use token::is_token_account;
 use token::mint_of;
 ghost use mathlib.Core.Path.{_≡_};
 ghost use mathlib.Core.Bool.{cond};
@@ -31,7 +32,10 @@ fn added(total: u64, table: &[u8], view: RecordView, vault: &[u8], mint: &[u8]) 
     if !key::same_key(mint_of(table, view), mint) {
         return total;
     }
-    if !is_counted(table, view, vault) {
+    if !is_token_account(table, view) {
+        return total;
+    }
+    if !is_held_by(table, view, vault) {
         return total;
     }
     number::capped_sum(total, amount_of(table, view))
@@ -60,7 +64,10 @@ fn turns_for(table: &[u8], view: RecordView, vault: &[u8], n: usize) -> usize
     if n == 0 {
         return 0;
     }
-    if is_counted(table, view, vault) { n } else { 0 }
+    if !is_token_account(table, view) {
+        return 0;
+    }
+    if is_held_by(table, view, vault) { n } else { 0 }
 }
 
 // A mint's total and the amount of a counted account, which is added where the account's mint is that one.

@@ -8,7 +8,7 @@ use key::Key;
 use keys::Keys;
 use keys::MAX_KEYS;
 use part::part_at;
-use token::is_counted;
+use token::is_held_by;
 use token::is_token_account;
 use token::mint_of;
 ghost use mathlib.Core.Path.{_≡_};
@@ -84,7 +84,10 @@ fn keeps_freeze(
     if !key::same_key(mint, mint_of(before, view)) {
         return true;
     }
-    if !is_counted(before, view, vault) {
+    if !is_token_account(before, view) {
+        return true;
+    }
+    if !is_held_by(before, view, vault) {
         return true;
     }
     let payload = record_payload(before, view);

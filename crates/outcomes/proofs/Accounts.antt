@@ -42,8 +42,8 @@ token-is-token-account _ _ = (tt, λ _ _ p q. both (one-outcome p q) refl)
 pub token-mint-of : OneOutcomeOfSlice token.mint_of.ended token.mint_of.Reads.Pre token.mint_of.Reads.Post
 token-mint-of _ _ = (tt, λ _ _ p q. both (one-outcome p q) refl)
 
-pub token-is-counted : OneOutcome token.is_counted.ended token.is_counted.Reads.Pre token.is_counted.Reads.Post
-token-is-counted _ _ = (tt, λ _ _ p q. both (one-outcome p q) refl)
+pub token-is-held-by : OneOutcome token.is_held_by.ended token.is_held_by.Reads.Pre token.is_held_by.Reads.Post
+token-is-held-by _ _ = (tt, λ _ _ p q. both (one-outcome p q) refl)
 
 pub token-amount-of : OneOutcome token.amount_of.ended token.amount_of.Reads.Pre token.amount_of.Reads.Post
 token-amount-of _ _ = (tt, λ _ _ p q. both (one-outcome p q) refl)

@@ -1,16 +1,16 @@
 -- Laws of token accounts, test by test as the code goes.
 -- Assumes nothing.
-use mathlib.Core.Path.{_≡_, refl}
+use mathlib.Core.Path.{_≡_, refl, _∙_}
 use mathlib.Core.Bool.{Bool, true, false, not, _&&_, _||_, and-true, and-false, or-false, and-eq-true-iff}
 use mathlib.Core.List.{List}
 use mathlib.Core.Logic.{_⊎_, inl, inr, ⊎-elim}
-use Prim.Native.Nat.{ℕ, _<_, _≤_}
+use Prim.Native.Nat.{ℕ, _-_, _<_, _≤_, min}
 use native.Mathlib.Omega.{arith}
 use borrow.Author.Tests.{lt-ltb, le-ltb, eq-eqb, ne-eqb, ltb-true, eqb-true, eqb-false, not-true}
 use lib.Dec.{eqb, ltb}
-use lib.ListN.{length, getD}
+use lib.ListN.{length, getD, length-take, length-drop}
 use Rattle.key.specs.Key.{sameKey, sameBytes}
-use Rattle.key.proofs.Laws.{same-key-eq}
+use Rattle.key.proofs.Laws.{left-no-key, same-key-eq}
 use Rattle.account.specs.Record.{Record}
 use Rattle.token.specs.Tokens.{splToken, token2022, isToken2022Account, isTokenAccount, holderOf, isCounted}
 
@@ -90,10 +90,16 @@ module _ (r : Record) where
       (account-ways e)
 
   module _ (vault : List ℕ) where
+    pub no-holder : length (r .payload) < 64 → sameKey (holderOf r) vault ≡ false
+    no-holder short =
+        left-no-key _ vault
+        (λ e. let size : min 32 (length (r .payload) - 32) ≡ 32 = simp (length-take, length-drop) at e in omega arith)
+
     pub no-account-not-counted : isTokenAccount r ≡ false → isCounted vault r ≡ false
     unfolding isCounted
     no-account-not-counted e = rw e
 
-    pub account-counted : isTokenAccount r ≡ true → isCounted vault r ≡ sameKey (holderOf r) vault
+    -- what is counted, as it is asked
+    pub counted : {h : Bool} → isTokenAccount r ≡ true → sameKey (holderOf r) vault ≡ h → isCounted vault r ≡ h
     unfolding isCounted
-    account-counted e = rw e
+    counted is-account held = rw is-account held

@@ -1,4 +1,4 @@
-// Token accounts: which records are counted, and their mint and amount.
+// Token accounts: which records are one, and their mint, holder and amount.
 mod programs;
 
 use crate::programs::SPL_TOKEN;
@@ -7,8 +7,9 @@ use account::RecordView;
 use account::record_owner;
 use account::record_payload;
 ghost use mathlib.Core.Path.{_≡_};
+ghost use Rattle.key.specs.Key.{sameKey};
 ghost use Rattle.account.specs.Views.{recordAt};
-ghost use Rattle.token.specs.Tokens.{isToken2022Account, isTokenAccount, mintOf, amountOf, isCounted};
+ghost use Rattle.token.specs.Tokens.{isToken2022Account, isTokenAccount, mintOf, holderOf, amountOf};
 
 const TOKEN_ACCOUNT_SIZE: usize = 165;
 
@@ -68,14 +69,14 @@ pub fn mint_of(table: &[u8], view: RecordView) -> &[u8]
     &payload[..TOKEN_OWNER_OFFSET]
 }
 
-// Whether a record is a token account of the vault.
-pub fn is_counted(table: &[u8], view: RecordView, vault: &[u8]) -> bool
-    ensures { λ r. ⌜ r ≡ isCounted (now (vault .entry)) (recordAt (now (table .entry)) view) ⌝ }
+// Whether the vault holds a token account. Data that is too short to name a holder has none.
+pub fn is_held_by(table: &[u8], view: RecordView, vault: &[u8]) -> bool
+    ensures { λ r. ⌜ r ≡ sameKey (holderOf (recordAt (now (table .entry)) view)) (now (vault .entry)) ⌝ }
 {
-    if !is_token_account(table, view) {
+    let payload = record_payload(table, view);
+    if payload.len() < TOKEN_AMOUNT_OFFSET {
         return false;
     }
-    let payload = record_payload(table, view);
     key::same_key(&payload[TOKEN_OWNER_OFFSET..TOKEN_AMOUNT_OFFSET], vault)
 }
 

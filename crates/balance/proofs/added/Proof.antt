@@ -4,6 +4,7 @@ use mathlib.Core.Path.{sym, _∙_}
 use native.Mathlib.Omega.{arith}
 use borrow.Author.Tests.{not-true, not-false}
 use Rattle.account.specs.Views.{recordAt}
+use Rattle.token.proofs.Counting.{no-account-not-counted, counted}
 use Rattle.balance.proofs.Adding.{stays-other-mint, stays-not-counted, grows-counted}
 use borrow.Author.Needs.{needs}
 use Rattle.balance.proofs.added.Statement.{statement}
@@ -22,14 +23,27 @@ returns c =
     let other = rw (c .before .before .mint-of .ensures) at (sym (c .before .same-key .ensures) ∙ not-true _ (c .if1 .taken)) in
     sym (stays-other-mint r _ _ (start .total) (omega arith) other)
 
-is-counted-requires : tie.Need-is-counted-requires
-is-counted-requires c κs = search needs
+is-token-account-requires : tie.Need-is-token-account-requires
+is-token-account-requires c κs = search needs
 
 returns-2 : tie.Need-returns-2
 returns-2 c =
     let start = c .before .before .before .before .before .before .before .before .args in
     let r = recordAt (start .table .now) (start .view) in
-    sym (stays-not-counted r _ (start .mint .now) (start .total) (omega arith) (sym (c .before .is-counted .ensures) ∙ not-true _ (c .if2 .taken)))
+    let none = no-account-not-counted r (start .vault .now) (sym (c .before .is-token-account .ensures) ∙ not-true _ (c .if2 .taken)) in
+    sym (stays-not-counted r _ (start .mint .now) (start .total) (omega arith) none)
+
+is-held-by-requires : tie.Need-is-held-by-requires
+is-held-by-requires c κs = search needs
+
+returns-3 : tie.Need-returns-3
+returns-3 c =
+    let account = c .before .before in
+    let start = account .before .before .before .before .before .before .before .before .args in
+    let r = recordAt (start .table .now) (start .view) in
+    let is-account = sym (account .before .is-token-account .ensures) ∙ not-false _ (account .if2 .left) in
+    let none = counted r (start .vault .now) is-account (sym (c .before .is-held-by .ensures) ∙ not-true _ (c .if3 .taken)) in
+    sym (stays-not-counted r _ (start .mint .now) (start .total) (omega arith) none)
 
 amount-of-requires : tie.Need-amount-of-requires
 amount-of-requires c κs = search needs
@@ -37,15 +51,17 @@ amount-of-requires c κs = search needs
 capped-sum-requires : tie.Need-capped-sum-requires
 capped-sum-requires c κs = search needs
 
-returns-3 : tie.Need-returns-3
-returns-3 c =
-    let counted = c .before .before .before in
-    let tested = counted .before .before in
-    let start = tested .before .before .before .before .before .args in
+returns-4 : tie.Need-returns-4
+returns-4 c =
+    let held = c .before .before in
+    let account = held .before .before in
+    let tested = account .before .before in
+    let start = tested .before .before .before .before .before .before .args in
     let r = recordAt (start .table .now) (start .view) in
-    let mint = rw (tested .before .mint-of .ensures) at (sym (tested .same-key .ensures) ∙ not-false _ (counted .before .if1 .left)) in
-    c .capped-sum .ensures
-    ∙ rw (c .before .amount-of .ensures) (sym (grows-counted r _ _ (start .total) (sym (counted .is-counted .ensures) ∙ not-false _ (c .before .before .if2 .left)) mint))
+    let mint = rw (tested .before .before .mint-of .ensures) at (sym (tested .before .same-key .ensures) ∙ not-false _ (tested .if1 .left)) in
+    let is-account = sym (account .before .is-token-account .ensures) ∙ not-false _ (account .if2 .left) in
+    let some = counted r (start .vault .now) is-account (sym (held .before .is-held-by .ensures) ∙ not-false _ (held .if3 .left)) in
+    c .capped-sum .ensures ∙ rw (c .before .amount-of .ensures) (sym (grows-counted r _ _ (start .total) some mint))
 
 pub added-spec : {M : Type 1} → statement M
 added-spec =
@@ -54,8 +70,10 @@ added-spec =
     mint-of-requires
     same-key-requires
     returns
-    is-counted-requires
+    is-token-account-requires
     returns-2
+    is-held-by-requires
+    returns-3
     amount-of-requires
     capped-sum-requires
-    returns-3)
+    returns-4)

@@ -4,12 +4,14 @@ use Prim.Native.Nat.{ℕ}
 use mathlib.Core.Path.{_≡_, refl, sym, _∙_}
 use mathlib.Core.Bool.{Bool, true, false, cond}
 use borrow.Author.Needs.{needs}
+use borrow.Author.Tests.{not-true, not-false}
 use Rattle.account.specs.Views.{recordAt}
 use Rattle.token.specs.Tokens.{isCounted}
+use Rattle.token.proofs.Counting.{no-account-not-counted, counted}
 use Rattle.balance.proofs.turns_for.Statement.{statement}
 use Rattle.balance.proofs.turns_for.Tie as tie
 
-none : (counted : Bool) (n : ℕ) → n ≡ 0 → 0 ≡ cond counted n 0
+none : (t : Bool) (n : ℕ) → n ≡ 0 → 0 ≡ cond t n 0
 none true n e = sym e
 none false n e = refl
 
@@ -18,14 +20,28 @@ returns c =
     let args = c .before .before .before .args in
     none (isCounted (args .vault .now) (recordAt (args .table .now) (args .view))) (args .n) (c .if1 .taken)
 
-is-counted-requires : tie.Need-is-counted-requires
-is-counted-requires c κs = search needs
+is-token-account-requires : tie.Need-is-token-account-requires
+is-token-account-requires c κs = search needs
 
 returns-2 : tie.Need-returns-2
-returns-2 c = rw (sym (c .before .is-counted .ensures) ∙ c .if2 .taken)
+returns-2 c =
+    let args = c .before .before .before .before .before .args in
+    rw (no-account-not-counted (recordAt (args .table .now) (args .view)) (args .vault .now) (sym (c .before .is-token-account .ensures) ∙ not-true _ (c .if2 .taken)))
+
+is-held-by-requires : tie.Need-is-held-by-requires
+is-held-by-requires c κs = search needs
 
 returns-3 : tie.Need-returns-3
-returns-3 c = rw (sym (c .before .is-counted .ensures) ∙ c .if2 .left)
+returns-3 c =
+    let account = c .before .before in
+    let args = account .before .before .before .before .before .args in
+    rw (counted (recordAt (args .table .now) (args .view)) (args .vault .now) (sym (account .before .is-token-account .ensures) ∙ not-false _ (account .if2 .left)) (sym (c .before .is-held-by .ensures) ∙ c .if3 .taken))
+
+returns-4 : tie.Need-returns-4
+returns-4 c =
+    let account = c .before .before in
+    let args = account .before .before .before .before .before .args in
+    rw (counted (recordAt (args .table .now) (args .view)) (args .vault .now) (sym (account .before .is-token-account .ensures) ∙ not-false _ (account .if2 .left)) (sym (c .before .is-held-by .ensures) ∙ c .if3 .left))
 
 pub turns-for-spec : {M : Type 1} → statement M
-turns-for-spec = tie.close (tie.spec returns is-counted-requires returns-2 returns-3)
+turns-for-spec = tie.close (tie.spec returns is-token-account-requires returns-2 is-held-by-requires returns-3 returns-4)

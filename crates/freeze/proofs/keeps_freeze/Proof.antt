@@ -5,6 +5,7 @@ use borrow.Author.Tests.{not-true, not-false}
 use Prim.Native.Nat.{ℕ}
 use mathlib.Core.List.{List}
 use Rattle.key.specs.Key.{sameKey}
+use Rattle.token.proofs.Counting.{no-account-not-counted, counted}
 use Rattle.freeze.proofs.Freezing.{not-counted-frozen, not-listed-frozen, listed-frozen}
 use borrow.Author.Needs.{needs}
 use Rattle.freeze.proofs.keeps_freeze.Statement.{statement}
@@ -23,11 +24,21 @@ returns c =
     (not-listed-frozen _ (sameKey mint) _ _
     (ap (λ (m : List ℕ). sameKey mint m) (sym (c .before .before .mint-of .ensures)) ∙ sym (c .before .same-key .ensures) ∙ not-true _ (c .if1 .taken)))
 
-is-counted-requires : tie.Need-is-counted-requires
-is-counted-requires c κs = search needs
+is-token-account-requires : tie.Need-is-token-account-requires
+is-token-account-requires c κs = search needs
 
 returns-2 : tie.Need-returns-2
-returns-2 c = sym (not-counted-frozen _ _ _ _ (sym (c .before .is-counted .ensures) ∙ not-true _ (c .if2 .taken)))
+returns-2 c =
+    sym (not-counted-frozen _ _ _ _ (no-account-not-counted _ _ (sym (c .before .is-token-account .ensures) ∙ not-true _ (c .if2 .taken))))
+
+is-held-by-requires : tie.Need-is-held-by-requires
+is-held-by-requires c κs = search needs
+
+returns-3 : tie.Need-returns-3
+returns-3 c =
+    let account = c .before .before in
+    let is-account = sym (account .before .is-token-account .ensures) ∙ not-false _ (account .if2 .left) in
+    sym (not-counted-frozen _ _ _ _ (counted _ _ is-account (sym (c .before .is-held-by .ensures) ∙ not-true _ (c .if3 .taken))))
 
 record-payload-requires : tie.Need-record-payload-requires
 record-payload-requires c κs = search needs
@@ -38,15 +49,18 @@ record-key-requires c κs = search needs
 still-there-requires : tie.Need-still-there-requires
 still-there-requires c κs = search needs
 
-returns-3 : tie.Need-returns-3
-returns-3 c =
-    let second = c .before .before .before in
-    let first = second .before .before in
+returns-4 : tie.Need-returns-4
+returns-4 c =
+    let held = c .before .before .before in
+    let account = held .before .before in
+    let first = account .before .before in
     let mint = first .before .before .before .before .before .before .before .before .args .mint .now in
     c .still-there .ensures
     ∙ rw (c .before .before .record-payload .ensures, c .before .record-key .ensures)
     (sym
-    (listed-frozen _ (sameKey mint) _ _ (sym (second .before .is-counted .ensures) ∙ not-false _ (second .if2 .left))
+    (listed-frozen _ (sameKey mint) _ _
+    (counted _ _ (sym (account .before .is-token-account .ensures) ∙ not-false _ (account .if2 .left))
+    (sym (held .before .is-held-by .ensures) ∙ not-false _ (held .if3 .left)))
     (ap (λ (m : List ℕ). sameKey mint m) (sym (first .before .before .mint-of .ensures)) ∙ sym (first .before .same-key .ensures) ∙ not-false _ (first .if1 .left))))
 
 pub keeps-freeze-spec : {M : Type 1} → statement M
@@ -56,9 +70,11 @@ keeps-freeze-spec =
     mint-of-requires
     same-key-requires
     returns
-    is-counted-requires
+    is-token-account-requires
     returns-2
+    is-held-by-requires
+    returns-3
     record-payload-requires
     record-key-requires
     still-there-requires
-    returns-3)
+    returns-4)
