@@ -11,15 +11,13 @@ use Rattle.token.specs.NamedRecords.{NamedRecord, namedRecords, plainAccount, m
 use Rattle.freeze.specs.Freeze.{firstWithKey, samePart, sameAuthorities, isStill, keepsFreeze}
 
 -- before: what is a token account may not be gone afterwards, what is none may
-pub gone-afterwards
-    : map (λ (n : NamedRecord). keepsFreeze vault (sameKey mint) [] (holding (replicate 8 0) n)) namedRecords
+pub gone-afterwards : map (λ (n : NamedRecord). keepsFreeze vault (sameKey mint) [] (holding (replicate 8 0) n)) namedRecords
     ≡ map (λ (n : NamedRecord). not (n .counts)) namedRecords
 unfolding namedRecords holding keepsFreeze firstWithKey isStill sameAuthorities samePart partAt isCounted isTokenAccount sameKey sameBytes
 gone-afterwards = refl
 
 -- after: an account of 165 bytes may become what is a token account, with the same authorities, and nothing else
-pub become-afterwards
-    : map (λ (n : NamedRecord). keepsFreeze vault (sameKey mint) (holding (replicate 8 0) n ∷ []) (holding (replicate 8 0) plainAccount)) namedRecords
+pub become-afterwards : map (λ (n : NamedRecord). keepsFreeze vault (sameKey mint) (holding (replicate 8 0) n ∷ []) (holding (replicate 8 0) plainAccount)) namedRecords
     ≡ map (λ (n : NamedRecord). n .counts) namedRecords
 unfolding namedRecords holding keepsFreeze firstWithKey isStill sameAuthorities samePart partAt isCounted isTokenAccount sameKey sameBytes
 become-afterwards = refl

@@ -1,2 +1,3 @@
 pub mod AsNamed
 pub mod Freezing
+pub mod Theorems

@@ -72,8 +72,7 @@ module _ (r : Record) where
       rw (ne-eqb (length (r .payload)) 165 (λ e. omega arith), le-ltb 165 (length (r .payload)) (omega arith), and-false (sameKey (r .owner) splToken), and-false (sameKey (r .owner) token2022))
 
   -- an account of SPL Token, or of Token-2022
-  pub account-ways
-      : isTokenAccount r ≡ true
+  pub account-ways : isTokenAccount r ≡ true
       → ((sameKey (r .owner) splToken ≡ true) × (length (r .payload) ≡ 165))
       ⊎ ((sameKey (r .owner) token2022 ≡ true) × (isToken2022Account (r .payload) ≡ true))
   unfolding isTokenAccount

@@ -29,8 +29,7 @@ module _ (r : Record) (is-account : isTokenAccount r ≡ true) where
   an-account-of-spl-token-has-exactly-165-bytes e = eqb-true _ 165 (sym (spl-account r e) ∙ is-account)
 
   -- a longer one is of Token-2022, says that it is an account, and is not as long as a multisignature record
-  pub a-longer-account-is-of-token-2022-and-says-so
-      : tokenAccountLength < length (r .payload)
+  pub a-longer-account-is-of-token-2022-and-says-so : tokenAccountLength < length (r .payload)
       → (sameKey (r .owner) token2022 ≡ true) × ((getD (r .payload) tokenAccountLength 0 ≡ accountType) × (length (r .payload) ≡ multisigLength → ⊥))
   a-longer-account-is-of-token-2022-and-says-so long =
       ⊎-elim (λ of-spl. absurd (omega arith))
