@@ -1,7 +1,7 @@
 -- Laws of token accounts, test by test as the code goes.
 -- Assumes nothing.
-use mathlib.Core.Path.{_≡_, refl, _∙_}
-use mathlib.Core.Bool.{Bool, true, false, not, _&&_, _||_, and-true, and-false, or-false, and-eq-true-iff}
+use mathlib.Core.Path.{_≡_, refl}
+use mathlib.Core.Bool.{Bool, true, false, _&&_, _||_, and-true, and-false, or-false, and-eq-true-iff}
 use mathlib.Core.List.{List}
 use mathlib.Core.Logic.{_⊎_, inl, inr, ⊎-elim}
 use Prim.Native.Nat.{ℕ, _-_, _<_, _≤_, min}
@@ -99,6 +99,6 @@ module _ (r : Record) where
     no-account-not-counted e = rw e
 
     -- what is counted, as it is asked
-    pub counted : {h : Bool} → isTokenAccount r ≡ true → sameKey (holderOf r) vault ≡ h → isCounted vault r ≡ h
+    pub account-counted : {h : Bool} → isTokenAccount r ≡ true → sameKey (holderOf r) vault ≡ h → isCounted vault r ≡ h
     unfolding isCounted
-    counted is-account held = rw is-account held
+    account-counted is-account held = rw is-account held

@@ -24,11 +24,11 @@ token2022 =
 abbrev pub tokenAccountLength : ℕ
 tokenAccountLength = 165
 
--- what stands behind them where the longer record is an account (where it is a mint: 1)
+-- what comes next where a longer record is an account (1: a mint)
 abbrev pub accountType : ℕ
 accountType = 2
 
--- the bytes of a multisignature record, which has no such mark
+-- the bytes of a multisignature record, which is no account
 abbrev pub multisigLength : ℕ
 multisigLength = 355
 
@@ -38,7 +38,7 @@ isToken2022Account p =
     eqb (length p) tokenAccountLength
     || ltb tokenAccountLength (length p) && eqb (getD p tokenAccountLength 0) accountType && not (eqb (length p) multisigLength)
 
--- whether a record is a token account: under SPL Token exactly 165 bytes
+-- whether a record is a token account: under SPL Token with exactly 165 bytes, under Token-2022 as above
 unfoldable pub isTokenAccount : Record → Bool
 isTokenAccount r =
     sameKey (r .owner) splToken && eqb (length (r .payload)) tokenAccountLength

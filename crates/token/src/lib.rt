@@ -17,15 +17,15 @@ const TOKEN_OWNER_OFFSET: usize = 32;
 
 const TOKEN_AMOUNT_OFFSET: usize = 64;
 
-// What Token-2022 puts behind an account begins with a byte that says whether it is one.
+// What Token-2022 puts behind an account begins with a byte that says that it is one.
 const ACCOUNT_TYPE_OFFSET: usize = 165;
 
 const ACCOUNT_TYPE: u8 = 2;
 
 const MULTISIG_SIZE: usize = 355;
 
-// Whether data is a token account's under Token-2022. A multisignature record has no byte that says
-// what it is, and what stands there may be anything.
+// Whether data is a token account's under Token-2022. A multisignature record has a part of a key
+// where others say what they are, so its length decides.
 fn is_token_2022_account(payload: &[u8]) -> bool
     ensures { λ r. ⌜ r ≡ isToken2022Account (now (payload .entry)) ⌝ }
 {

@@ -4,7 +4,7 @@ use mathlib.Core.Path.{sym, _∙_}
 use native.Mathlib.Omega.{arith}
 use borrow.Author.Tests.{not-true, not-false}
 use Rattle.account.specs.Views.{recordAt}
-use Rattle.token.proofs.Counting.{no-account-not-counted, counted}
+use Rattle.token.proofs.Counting.{no-account-not-counted, account-counted}
 use Rattle.balance.proofs.Adding.{stays-other-mint, stays-not-counted, grows-counted}
 use borrow.Author.Needs.{needs}
 use Rattle.balance.proofs.added.Statement.{statement}
@@ -42,7 +42,7 @@ returns-3 c =
     let start = account .before .before .before .before .before .before .before .before .args in
     let r = recordAt (start .table .now) (start .view) in
     let is-account = sym (account .before .is-token-account .ensures) ∙ not-false _ (account .if2 .left) in
-    let none = counted r (start .vault .now) is-account (sym (c .before .is-held-by .ensures) ∙ not-true _ (c .if3 .taken)) in
+    let none = account-counted r (start .vault .now) is-account (sym (c .before .is-held-by .ensures) ∙ not-true _ (c .if3 .taken)) in
     sym (stays-not-counted r _ (start .mint .now) (start .total) (omega arith) none)
 
 amount-of-requires : tie.Need-amount-of-requires
@@ -60,7 +60,7 @@ returns-4 c =
     let r = recordAt (start .table .now) (start .view) in
     let mint = rw (tested .before .before .mint-of .ensures) at (sym (tested .before .same-key .ensures) ∙ not-false _ (tested .if1 .left)) in
     let is-account = sym (account .before .is-token-account .ensures) ∙ not-false _ (account .if2 .left) in
-    let some = counted r (start .vault .now) is-account (sym (held .before .is-held-by .ensures) ∙ not-false _ (held .if3 .left)) in
+    let some = account-counted r (start .vault .now) is-account (sym (held .before .is-held-by .ensures) ∙ not-false _ (held .if3 .left)) in
     c .capped-sum .ensures ∙ rw (c .before .amount-of .ensures) (sym (grows-counted r _ _ (start .total) some mint))
 
 pub added-spec : {M : Type 1} → statement M

@@ -7,7 +7,7 @@ use borrow.Author.Needs.{needs}
 use borrow.Author.Tests.{not-true, not-false}
 use Rattle.account.specs.Views.{recordAt}
 use Rattle.token.specs.Tokens.{isCounted}
-use Rattle.token.proofs.Counting.{no-account-not-counted, counted}
+use Rattle.token.proofs.Counting.{no-account-not-counted, account-counted}
 use Rattle.balance.proofs.turns_for.Statement.{statement}
 use Rattle.balance.proofs.turns_for.Tie as tie
 
@@ -26,7 +26,8 @@ is-token-account-requires c κs = search needs
 returns-2 : tie.Need-returns-2
 returns-2 c =
     let args = c .before .before .before .before .before .args in
-    rw (no-account-not-counted (recordAt (args .table .now) (args .view)) (args .vault .now) (sym (c .before .is-token-account .ensures) ∙ not-true _ (c .if2 .taken)))
+    let no-account = sym (c .before .is-token-account .ensures) ∙ not-true _ (c .if2 .taken) in
+    rw (no-account-not-counted (recordAt (args .table .now) (args .view)) (args .vault .now) no-account)
 
 is-held-by-requires : tie.Need-is-held-by-requires
 is-held-by-requires c κs = search needs
@@ -35,13 +36,15 @@ returns-3 : tie.Need-returns-3
 returns-3 c =
     let account = c .before .before in
     let args = account .before .before .before .before .before .args in
-    rw (counted (recordAt (args .table .now) (args .view)) (args .vault .now) (sym (account .before .is-token-account .ensures) ∙ not-false _ (account .if2 .left)) (sym (c .before .is-held-by .ensures) ∙ c .if3 .taken))
+    let is-account = sym (account .before .is-token-account .ensures) ∙ not-false _ (account .if2 .left) in
+    rw (account-counted (recordAt (args .table .now) (args .view)) (args .vault .now) is-account (sym (c .before .is-held-by .ensures) ∙ c .if3 .taken))
 
 returns-4 : tie.Need-returns-4
 returns-4 c =
     let account = c .before .before in
     let args = account .before .before .before .before .before .args in
-    rw (counted (recordAt (args .table .now) (args .view)) (args .vault .now) (sym (account .before .is-token-account .ensures) ∙ not-false _ (account .if2 .left)) (sym (c .before .is-held-by .ensures) ∙ c .if3 .left))
+    let is-account = sym (account .before .is-token-account .ensures) ∙ not-false _ (account .if2 .left) in
+    rw (account-counted (recordAt (args .table .now) (args .view)) (args .vault .now) is-account (sym (c .before .is-held-by .ensures) ∙ c .if3 .left))
 
 pub turns-for-spec : {M : Type 1} → statement M
 turns-for-spec = tie.close (tie.spec returns is-token-account-requires returns-2 is-held-by-requires returns-3 returns-4)

@@ -5,7 +5,7 @@ use borrow.Author.Tests.{not-true, not-false}
 use Prim.Native.Nat.{ℕ}
 use mathlib.Core.List.{List}
 use Rattle.key.specs.Key.{sameKey}
-use Rattle.token.proofs.Counting.{no-account-not-counted, counted}
+use Rattle.token.proofs.Counting.{no-account-not-counted, account-counted}
 use Rattle.freeze.proofs.Freezing.{not-counted-frozen, not-listed-frozen, listed-frozen}
 use borrow.Author.Needs.{needs}
 use Rattle.freeze.proofs.keeps_freeze.Statement.{statement}
@@ -38,7 +38,7 @@ returns-3 : tie.Need-returns-3
 returns-3 c =
     let account = c .before .before in
     let is-account = sym (account .before .is-token-account .ensures) ∙ not-false _ (account .if2 .left) in
-    sym (not-counted-frozen _ _ _ _ (counted _ _ is-account (sym (c .before .is-held-by .ensures) ∙ not-true _ (c .if3 .taken))))
+    sym (not-counted-frozen _ _ _ _ (account-counted _ _ is-account (sym (c .before .is-held-by .ensures) ∙ not-true _ (c .if3 .taken))))
 
 record-payload-requires : tie.Need-record-payload-requires
 record-payload-requires c κs = search needs
@@ -59,7 +59,7 @@ returns-4 c =
     ∙ rw (c .before .before .record-payload .ensures, c .before .record-key .ensures)
     (sym
     (listed-frozen _ (sameKey mint) _ _
-    (counted _ _ (sym (account .before .is-token-account .ensures) ∙ not-false _ (account .if2 .left))
+    (account-counted _ _ (sym (account .before .is-token-account .ensures) ∙ not-false _ (account .if2 .left))
     (sym (held .before .is-held-by .ensures) ∙ not-false _ (held .if3 .left)))
     (ap (λ (m : List ℕ). sameKey mint m) (sym (first .before .before .mint-of .ensures)) ∙ sym (first .before .same-key .ensures) ∙ not-false _ (first .if1 .left))))
 

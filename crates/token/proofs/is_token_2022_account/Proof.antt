@@ -2,7 +2,6 @@
 -- Assumes nothing.
 use mathlib.Core.Path.{sym}
 use native.Mathlib.Omega.{arith}
-use borrow.Author.Tests.{eqb-true, eqb-false}
 use Rattle.token.proofs.Counting.{at-most-165, of-355, longer}
 use Rattle.token.proofs.is_token_2022_account.Statement.{statement}
 use Rattle.token.proofs.is_token_2022_account.Tie as tie
