@@ -7,7 +7,12 @@ use crate::{Key, Refusal};
 /// The most records that a table may have.
 pub const MAX_RECORDS: usize = 64;
 
-/// An account as the co-signer sees it before or after execution.
+/// An account as the co-signer sees it before or after execution, with all of its
+/// data: whether it is a token account is read from that.
+///
+/// Under SPL Token a token account has exactly 165 bytes. Under Token-2022 it has
+/// 165, or more where byte 165 is 2 and the length is not 355. What an order takes
+/// from any other record no token rule sees.
 #[derive(Clone, Copy, Debug, PartialEq, Eq)]
 pub struct Record<'a> {
     /// The account's key.
