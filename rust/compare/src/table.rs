@@ -65,6 +65,43 @@ pub fn decode(bytes: &[u8]) -> Option<Vec<Record>> {
     cursor.is_done().then_some(records)
 }
 
+/// What makes a record a token account, or not.
+#[derive(Clone, Copy, Debug, PartialEq, Eq)]
+pub struct Layout {
+    /// The owning program.
+    pub owner: Key,
+    /// The length of the data.
+    pub len: usize,
+    /// The byte at [`TOKEN_ACCOUNT`], where there is one.
+    pub mark: u8,
+}
+
+impl Layout {
+    /// A layout of its three parts.
+    pub const fn new(owner: Key, len: usize, mark: u8) -> Self {
+        Self { owner, len, mark }
+    }
+
+    /// An account as either program makes it, with nothing behind it.
+    pub const fn plain(owner: Key) -> Self {
+        Self::new(owner, TOKEN_ACCOUNT, 0)
+    }
+
+    /// A record of this layout that holds so many tokens of a mint for its holder.
+    pub fn record(&self, key: Key, mint: &Key, holder: &Key, amount: u64) -> Record {
+        let mut data = [&mint[..], holder, &amount.to_le_bytes()].concat();
+        data.resize(self.len, 0);
+        if let Some(byte) = data.get_mut(TOKEN_ACCOUNT) {
+            *byte = self.mark;
+        }
+        Record {
+            key,
+            owner: self.owner,
+            data,
+        }
+    }
+}
+
 /// Whether a record is a token account by document 02's W-204.
 pub fn is_token_account(record: &Record) -> bool {
     let len = record.data.len();

@@ -13,7 +13,7 @@ use compare::{
     numbers::BAD_REGION,
     region::{lasting, Recurring, Rule},
     subjects::{Archive, Subject},
-    table::{self, Record, AMOUNT, SPL_TOKEN, TOKEN_2022, TOKEN_ACCOUNT},
+    table::{self, Layout, Record, SPL_TOKEN, TOKEN_2022},
     Key,
 };
 use oracle::{Instruction, Oracle, Part};
@@ -66,26 +66,14 @@ fn by_published(region: &[u8], call: &Call) -> Result<(u32, Vec<u8>), String> {
     Ok((number, left))
 }
 
-/// A record of the vault that holds so many of the mint's tokens: its owning
-/// program, the length of its data, and its byte 165 where there is one.
-fn holding(owner: Key, len: usize, mark: u8, amount: u64) -> Record {
-    let mut data = vec![0; len];
-    data[..32].copy_from_slice(&MINT);
-    data[32..64].copy_from_slice(&VAULT);
-    data[AMOUNT..AMOUNT + 8].copy_from_slice(&amount.to_le_bytes());
-    if let Some(byte) = data.get_mut(TOKEN_ACCOUNT) {
-        *byte = mark;
-    }
-    Record {
-        key: [1; 32],
-        owner,
-        data,
-    }
+/// A record of the vault that holds so many of the mint's tokens.
+fn holding(layout: Layout, amount: u64) -> Record {
+    layout.record([1; 32], &MINT, &VAULT, amount)
 }
 
 /// A call without instructions on tables that hold so many of the mint's tokens.
 fn call(slot: u64, lamports: u64, tokens: [u64; 2]) -> Call {
-    let table = |amount| table::encode(&[holding(SPL_TOKEN, TOKEN_ACCOUNT, 0, amount)]);
+    let table = |amount| table::encode(&[holding(Layout::plain(SPL_TOKEN), amount)]);
     Call {
         before: table(tokens[0]),
         after: table(tokens[1]),
@@ -192,15 +180,15 @@ fn a_window_of_0() {
 #[cfg_attr(not(oracle_sources), ignore)]
 fn records_that_only_the_published_code_takes_for_token_accounts() {
     let limit = |left| lasting(&[Rule::TokenLimit(MINT, left)]);
-    let plain = holding(SPL_TOKEN, TOKEN_ACCOUNT, 0, 1);
-    for (owner, len, mark) in [
-        (SPL_TOKEN, 166, 2),
-        (TOKEN_2022, 166, 0),
-        (TOKEN_2022, 166, 1),
-        (TOKEN_2022, 166, 3),
-        (TOKEN_2022, 355, 2),
+    let plain = holding(Layout::plain(SPL_TOKEN), 1);
+    for layout in [
+        Layout::new(SPL_TOKEN, 166, 2),
+        Layout::new(TOKEN_2022, 166, 0),
+        Layout::new(TOKEN_2022, 166, 1),
+        Layout::new(TOKEN_2022, 166, 3),
+        Layout::new(TOKEN_2022, 355, 2),
     ] {
-        let [one, none] = [1, 0].map(|amount| holding(owner, len, mark, amount));
+        let [one, none] = [1, 0].map(|amount| holding(layout, amount));
         let ends = |before: &[Record], after: &[Record]| {
             let call = Call {
                 before: table::encode(before),

@@ -6,11 +6,11 @@ use oracle::{Instruction, Part};
 use crate::{
     calls::Call,
     region::{lasting, Rule},
-    table::{self, Record, MAX_RECORDS, SPL_TOKEN, TOKEN_2022, TOKEN_ACCOUNT},
+    table::{self, Layout, Record, MAX_RECORDS, SPL_TOKEN, TOKEN_2022},
     Key,
 };
 
-pub const VAULT: Key = [9; 32];
+const VAULT: Key = [9; 32];
 
 pub const MINT: Key = [7; 32];
 
@@ -96,17 +96,14 @@ pub fn entries() -> Vec<(&'static str, Vec<u8>, Instruction, Vec<u8>)> {
 
 /// A region and a judged call on it. The first action is a limit of the mint.
 pub fn calls() -> Vec<(&'static str, Vec<u8>, Call)> {
-    let whole = |before, after| Account {
-        owner: SPL_TOKEN,
-        len: TOKEN_ACCOUNT,
+    let moved = |layout, before, after| Account {
+        layout,
         before,
         after,
     };
-    let of = |owner| Account {
-        owner,
-        ..whole(5, 0)
-    };
-    let long = |len| Account { len, ..whole(5, 0) };
+    let whole = |before, after| moved(Layout::plain(SPL_TOKEN), before, after);
+    let of = |owner| moved(Layout::plain(owner), 5, 0);
+    let long = |len| moved(Layout::new(SPL_TOKEN, len, 0), 5, 0);
     let two = [whole(60, 30), whole(50, 10)];
     let top = u64::MAX;
     let mut gone = call(&[whole(5, 5)]);
@@ -155,32 +152,38 @@ pub fn calls() -> Vec<(&'static str, Vec<u8>, Call)> {
     ]
 }
 
-/// A token account of the mint and the vault: its owning program, the length of
-/// its data, and its amount before and after.
+/// A token account of the mint and the vault: its layout, and its amount before
+/// and after.
 struct Account {
-    owner: Key,
-    len: usize,
+    layout: Layout,
     before: u64,
     after: u64,
 }
 
 /// A call without instructions that moves the accounts' amounts.
 fn call(accounts: &[Account]) -> Call {
-    let table = |amount: fn(&Account) -> u64| {
-        let record = |(at, account): (usize, &Account)| {
-            let mut data = [&MINT[..], &VAULT, &amount(account).to_le_bytes()].concat();
-            data.resize(account.len, 0);
-            Record {
-                key: [at as u8; 32],
-                owner: account.owner,
-                data,
-            }
-        };
-        table::encode(&accounts.iter().enumerate().map(record).collect::<Vec<_>>())
+    let records = |amount: fn(&Account) -> u64| -> Vec<Record> {
+        let keyed = (0..).zip(accounts);
+        keyed
+            .map(|(key, account)| held(&account.layout, key, amount(account)))
+            .collect()
     };
+    quiet(
+        &records(|account| account.before),
+        &records(|account| account.after),
+    )
+}
+
+/// A record of the vault with so many of the mint's tokens: its key is of this byte.
+pub fn held(layout: &Layout, key: u8, amount: u64) -> Record {
+    layout.record([key; 32], &MINT, &VAULT, amount)
+}
+
+/// A call without instructions and lamports.
+pub fn quiet(before: &[Record], after: &[Record]) -> Call {
     Call {
-        before: table(|account| account.before),
-        after: table(|account| account.after),
+        before: table::encode(before),
+        after: table::encode(after),
         instructions: vec![0],
         vault: VAULT,
         slot: 1,

@@ -1,74 +1,38 @@
 //! Document 02's W-204 by name: records on either side of what is a token
 //! account, each in a sum and on both sides of the freeze.
 
-use std::fmt;
-
-use super::named::{MINT, VAULT};
+use super::named::{held, quiet, MINT};
 use crate::{
     calls::Call,
     region::{lasting, Rule},
-    table::{self, Record, SPL_TOKEN, TOKEN_2022, TOKEN_ACCOUNT},
-    Key,
+    table::{Layout, Record, SPL_TOKEN, TOKEN_2022, TOKEN_ACCOUNT},
 };
 
-/// Data under a program: its length, and its byte 165 where it has one.
-#[derive(Clone, Copy)]
-struct Layout {
-    program: Key,
-    len: usize,
-    mark: u8,
-}
-
-/// An account as SPL Token makes it.
-const PLAIN: Layout = under(SPL_TOKEN, TOKEN_ACCOUNT, 0);
-
 const LAYOUTS: [Layout; 13] = [
-    under(SPL_TOKEN, 164, 2),
-    under(SPL_TOKEN, 165, 2),
-    under(SPL_TOKEN, 166, 2),
-    under(SPL_TOKEN, 355, 2),
-    under(TOKEN_2022, 164, 2),
-    under(TOKEN_2022, 165, 2),
-    under(TOKEN_2022, 166, 0),
-    under(TOKEN_2022, 166, 1),
-    under(TOKEN_2022, 166, 2),
-    under(TOKEN_2022, 166, 3),
-    under(TOKEN_2022, 354, 2),
-    under(TOKEN_2022, 355, 2),
-    under(TOKEN_2022, 356, 2),
+    Layout::new(SPL_TOKEN, 164, 2),
+    Layout::new(SPL_TOKEN, 165, 2),
+    Layout::new(SPL_TOKEN, 166, 2),
+    Layout::new(SPL_TOKEN, 355, 2),
+    Layout::new(TOKEN_2022, 164, 2),
+    Layout::new(TOKEN_2022, 165, 2),
+    Layout::new(TOKEN_2022, 166, 0),
+    Layout::new(TOKEN_2022, 166, 1),
+    Layout::new(TOKEN_2022, 166, 2),
+    Layout::new(TOKEN_2022, 166, 3),
+    Layout::new(TOKEN_2022, 354, 2),
+    Layout::new(TOKEN_2022, 355, 2),
+    Layout::new(TOKEN_2022, 356, 2),
 ];
 
-const fn under(program: Key, len: usize, mark: u8) -> Layout {
-    Layout { program, len, mark }
-}
-
-impl Layout {
-    /// A record of the vault: its key's byte, and how many tokens it holds.
-    fn holding(&self, key: u8, amount: u64) -> Record {
-        let mut data = [&MINT[..], &VAULT, &amount.to_le_bytes()].concat();
-        data.resize(self.len, 0);
-        if let Some(byte) = data.get_mut(TOKEN_ACCOUNT) {
-            *byte = self.mark;
-        }
-        Record {
-            key: [key; 32],
-            owner: self.program,
-            data,
-        }
-    }
-}
-
-impl fmt::Display for Layout {
-    fn fmt(&self, f: &mut fmt::Formatter) -> fmt::Result {
-        let program = match self.program {
-            SPL_TOKEN => "SPL Token",
-            _ => "Token-2022",
-        };
-        write!(f, "{program}, {} bytes", self.len)?;
-        match self.len > TOKEN_ACCOUNT {
-            true => write!(f, " with {}", self.mark),
-            false => Ok(()),
-        }
+/// A layout's name.
+fn name(layout: &Layout) -> String {
+    let program = match layout.owner {
+        SPL_TOKEN => "SPL Token",
+        _ => "Token-2022",
+    };
+    match layout.len > TOKEN_ACCOUNT {
+        true => format!("{program}, {} bytes with {}", layout.len, layout.mark),
+        false => format!("{program}, {} bytes", layout.len),
     }
 }
 
@@ -79,39 +43,26 @@ pub fn calls() -> Vec<(String, Vec<u8>, Call)> {
     let limit = |remaining| lasting(&[Rule::TokenLimit(MINT, remaining)]);
     let mut calls = Vec::new();
     for layout in &LAYOUTS {
-        let [one, none] = [1, 0].map(|amount| [layout.holding(0, amount)]);
+        let [one, none] = [1, 0].map(|amount| [held(layout, 0, amount)]);
+        let plain = [held(&Layout::plain(SPL_TOKEN), 0, 1)];
         for (what, call) in [
-            ("1 taken", call(&one, &none)),
-            ("gone", call(&one, &[])),
-            ("became it", call(&[PLAIN.holding(0, 1)], &one)),
+            ("1 taken", quiet(&one, &none)),
+            ("gone", quiet(&one, &[])),
+            ("became it", quiet(&plain, &one)),
         ] {
-            calls.push((format!("{layout}: {what}"), limit(5), call));
+            calls.push((format!("{}: {what}", name(layout)), limit(5), call));
         }
     }
     // Each has twice what the one before it has: the sum says which are counted.
     let each = |amount: fn(u8) -> u64| -> Vec<Record> {
         let keyed = (0..).zip(&LAYOUTS);
         keyed
-            .map(|(key, layout)| layout.holding(key, amount(key)))
+            .map(|(key, layout)| held(layout, key, amount(key)))
             .collect()
     };
-    let one_of_each = call(&each(|key| 1 << key), &each(|_| 0));
+    let one_of_each = quiet(&each(|key| 1 << key), &each(|_| 0));
     calls.push(("one of each".to_string(), limit(6000), one_of_each));
     calls
-}
-
-/// A call without instructions.
-fn call(before: &[Record], after: &[Record]) -> Call {
-    Call {
-        before: table::encode(before),
-        after: table::encode(after),
-        instructions: vec![0],
-        vault: VAULT,
-        slot: 1,
-        lamports_before: 0,
-        lamports_after: 0,
-        gross: 0,
-    }
 }
 
 #[cfg(test)]

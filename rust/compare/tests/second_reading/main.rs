@@ -15,9 +15,8 @@ use compare::{
     damage::damage,
     numbers::{CREATION, JUDGING, WRITING},
     region::{self, Rule},
-    table::{self, Record, SPL_TOKEN, TOKEN_2022},
+    table::{self, Layout, SPL_TOKEN, TOKEN_2022},
     vectors::{self, Kind},
-    Key,
 };
 use oracle::Oracle;
 use reading::{Entry, Inputs};
@@ -110,17 +109,9 @@ fn damaged_calls() {
 #[test]
 fn records_of_every_length() {
     let (vault, mint) = ([9; 32], [7; 32]);
-    let record = |owner: Key, len: usize, mark: u8, amount: u64| {
-        let mut data = [&mint[..], &vault, &amount.to_le_bytes()].concat();
-        data.resize(len, 0);
-        if let Some(byte) = data.get_mut(165) {
-            *byte = mark;
-        }
-        table::encode(&[Record {
-            key: [1; 32],
-            owner,
-            data,
-        }])
+    let record = |owner, len, mark, amount| {
+        let layout = Layout::new(owner, len, mark);
+        table::encode(&[layout.record([1; 32], &mint, &vault, amount)])
     };
     let region = region::lasting(&[Rule::TokenLimit(mint, 5)]);
     let mut met = BTreeMap::new();
