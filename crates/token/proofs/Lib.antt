@@ -1,3 +1,4 @@
 pub mod AsNamed
 pub mod Counting
 pub mod Theorems
+pub mod Ways
