@@ -5,6 +5,8 @@ use mathlib.Core.Bool.{Bool, true, false, not, _&&_, _||_, and-false}
 use mathlib.Core.List.{List, [], _∷_}
 use mathlib.Core.Option.{some}
 use Prim.Native.Nat.{ℕ, suc, _/_, _<_, _≤_, min}
+use borrow.Author.Tests.{le-leb}
+use lib.Dec.{leb}
 use lib.ListN.{length, getD, drop, drop-of-length-le}
 use Rattle.key.specs.declared.Key.{Key}
 use Rattle.key.specs.Key.{sameKey}
@@ -15,33 +17,20 @@ use Rattle.account.specs.declared.RecordView.{RecordView}
 use Rattle.account.specs.Record.{Record}
 use Rattle.account.specs.Views.{recordAt, recordViews, recordsIn, zeroRecordView}
 use Rattle.account.proofs.Views.{records-step, length-records}
-use Rattle.token.specs.Tokens.{isTokenAccount, isCounted, mintOf}
-use Rattle.freeze.specs.Freeze.{firstWithKey, samePart, sameAuthorities, isStill, isFoundStill, keepsFreeze, allFrozen}
+use Rattle.token.specs.Tokens.{tokenAccountLength, isTokenAccount, isCounted, mintOf}
+use Rattle.token.proofs.Theorems.{a-token-account-has-165-bytes}
+use Rattle.freeze.specs.Freeze.{firstWithKey, sameAuthorities, isStill, isFoundStill, keepsFreeze, allFrozen}
 
--- ---- authorities
-
-module _ (p q : List ℕ) where
-  pub owner-changed : samePart 32 32 p q ≡ false → sameAuthorities p q ≡ false
-  unfolding sameAuthorities
-  owner-changed e = rw e
-
-  module _ (o : samePart 32 32 p q ≡ true) where
-    pub delegate-changed : samePart 72 36 p q ≡ false → sameAuthorities p q ≡ false
-    unfolding sameAuthorities
-    delegate-changed e = rw (o, e)
-
-    pub close-authority-decides : samePart 72 36 p q ≡ true → sameAuthorities p q ≡ samePart 129 36 p q
-    unfolding sameAuthorities
-    close-authority-decides e = rw (o, e)
+-- ---- one account
 
 module _ (p : List ℕ) (q : Record) where
   pub no-account-still : isTokenAccount q ≡ false → isStill p q ≡ false
   unfolding isStill
   no-account-still e = rw e
 
-  pub account-still : isTokenAccount q ≡ true → isStill p q ≡ sameAuthorities p (q .payload)
+  pub account-still : isTokenAccount q ≡ true → isStill p q ≡ (leb tokenAccountLength (length (q .payload)) && sameAuthorities p (q .payload))
   unfolding isStill
-  account-still e = rw e
+  account-still e = rw (e, le-leb _ _ (a-token-account-has-165-bytes q e))
 
 -- ---- the first record with a key
 

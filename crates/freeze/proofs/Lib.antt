@@ -1,3 +1,4 @@
+pub mod Authorities
 pub mod AsNamed
 pub mod Freezing
 pub mod Theorems

@@ -1,1 +1,2 @@
 pub mod Freeze
+pub mod Views

@@ -12,37 +12,55 @@ use token::is_held_by;
 use token::is_token_account;
 use token::mint_of;
 ghost use mathlib.Core.Path.{_≡_};
+ghost use mathlib.Core.Bool.{_&&_};
 ghost use mathlib.Core.List.{List};
 ghost use Prim.Native.Nat.{ℕ};
+ghost use lib.Dec.{leb};
+ghost use lib.ListN.{length};
 ghost use Rattle.key.specs.Key.{sameKey};
 ghost use Rattle.keys.specs.Views.{isAmong, keysIn};
 ghost use Rattle.account.specs.Views.{recordAt, recordsIn};
-ghost use Rattle.freeze.specs.Freeze.{firstWithKey, samePart, sameAuthorities, isStill, isFoundStill, keepsFreeze, allFrozen};
+ghost use Rattle.token.specs.Tokens.{tokenAccountLength};
+ghost use Rattle.freeze.specs.Freeze.{firstWithKey, sameAuthorities, isStill, isFoundStill, keepsFreeze, allFrozen};
+ghost use Rattle.freeze.specs.Views.{sameKeyAt, sameOptionalKeyAt};
 
 const OWNER_OFFSET: usize = 32;
 
-const DELEGATE_OFFSET: usize = 72;
+const DELEGATE_TAG_OFFSET: usize = 72;
 
-const CLOSE_AUTHORITY_OFFSET: usize = 129;
+const DELEGATE_OFFSET: usize = 76;
 
-const AUTHORITY_LENGTH: usize = 36;
+const CLOSE_AUTHORITY_TAG_OFFSET: usize = 129;
 
-fn same_part(a: &[u8], b: &[u8], at: usize, size: usize) -> bool
-    ensures { λ r. ⌜ r ≡ samePart at size (now (a .entry)) (now (b .entry)) ⌝ }
+const CLOSE_AUTHORITY_OFFSET: usize = 133;
+
+fn same_key_at(a: &[u8], b: &[u8], at: usize) -> bool
+    ensures { λ r. ⌜ r ≡ sameKeyAt at (now (a .entry)) (now (b .entry)) ⌝ }
 {
-    key::same_bytes(part_at(a, at, size), part_at(b, at, size))
+    key::same_key(part_at(a, at, KEY_LENGTH), part_at(b, at, KEY_LENGTH))
 }
 
-fn same_authorities(a: &[u8], b: &[u8]) -> bool
-    ensures { λ r. ⌜ r ≡ sameAuthorities (now (a .entry)) (now (b .entry)) ⌝ }
+// Whether both have the same optional key: a tag of four bytes says whether there is one.
+fn same_optional_key_at(a: &[u8], b: &[u8], tag: usize, at: usize) -> bool
+    ensures { λ r. ⌜ r ≡ sameOptionalKeyAt tag at (now (a .entry)) (now (b .entry)) ⌝ }
 {
-    if !same_part(a, b, OWNER_OFFSET, KEY_LENGTH) {
+    if number::read_u32(a, tag) != number::read_u32(b, tag) {
         return false;
     }
-    if !same_part(a, b, DELEGATE_OFFSET, AUTHORITY_LENGTH) {
+    same_key_at(a, b, at)
+}
+
+// Whether the second data has all frozen fields, and the first the same.
+fn same_authorities(a: &[u8], b: &[u8]) -> bool
+    ensures { λ r. ⌜ r ≡ (leb tokenAccountLength (length (now (b .entry))) && sameAuthorities (now (a .entry)) (now (b .entry))) ⌝ }
+{
+    if !same_key_at(a, b, OWNER_OFFSET) {
         return false;
     }
-    same_part(a, b, CLOSE_AUTHORITY_OFFSET, AUTHORITY_LENGTH)
+    if !same_optional_key_at(a, b, DELEGATE_TAG_OFFSET, DELEGATE_OFFSET) {
+        return false;
+    }
+    same_optional_key_at(a, b, CLOSE_AUTHORITY_TAG_OFFSET, CLOSE_AUTHORITY_OFFSET)
 }
 
 // Whether a record is still the account that had the data.

@@ -1,21 +1,15 @@
--- The laws of comparing keys, byte by byte as the loops go, and of the key of a part.
+-- The laws of comparing keys, and of the key of a part.
 -- Assumes nothing.
-use mathlib.Core.Path.{_≡_, refl, ap₂, _∙_}
-use mathlib.Core.Bool.{true, false, _&&_, and-false, and-eq-true-iff}
+use mathlib.Core.Path.{_≡_, refl, sym, ap₂, _∙_}
+use mathlib.Core.Bool.{Bool, true, false, _&&_, and-false, and-eq-true-iff}
 use mathlib.Core.List.{List, [], _∷_}
-use Prim.Native.Nat.{ℕ, suc, _<_, _≤_}
+use Prim.Native.Nat.{ℕ, _≤_}
 use native.Mathlib.Omega.{arith}
-use borrow.Author.Tests.{eq-eqb, ne-eqb, eqb-true}
+use borrow.Author.Tests.{eq-eqb, ne-eqb, eqb-true, eqb-false}
 use lib.Dec.{eqb}
-use lib.ListN.{length, getD, drop, drop-of-length-le}
-use lib.Seq.{drop-cons}
+use lib.ListN.{length, drop, drop-of-length-le}
 use Rattle.key.specs.Key.{sameBytes, sameKey}
 use Rattle.key.specs.Views.{zeroKey, keyFrom}
-
-pub same-bytes-step : (a b : List ℕ) (i : ℕ) → i < length a → i < length b
-    → sameBytes (drop i a) (drop i b) ≡ (eqb (getD a i 0) (getD b i 0) && sameBytes (drop (suc i) a) (drop (suc i) b))
-unfolding sameBytes
-same-bytes-step a b i ha hb = rw (drop-cons a i 0, drop-cons b i 0)
 
 pub same-bytes-end : (a b : List ℕ) (i : ℕ) → length a ≤ i → length b ≤ i → sameBytes (drop i a) (drop i b) ≡ true
 unfolding sameBytes
@@ -39,6 +33,16 @@ left-no-key a b h = rw (ne-eqb _ _ h)
 pub right-no-key : (a b : List ℕ) → (length b ≡ 32 → ⊥) → sameKey a b ≡ false
 unfolding sameKey
 right-no-key a b h = rw (ne-eqb _ _ h, and-false)
+
+-- where one is a key the bytes decide
+pub key-compared : (a b : List ℕ) → length b ≡ 32 → sameKey a b ≡ sameBytes a b
+key-compared a b hb = go (eqb (length a) 32) refl
+  where
+    go : (t : Bool) → eqb (length a) 32 ≡ t → sameKey a b ≡ sameBytes a b
+    go true e = keys-compared a b (eqb-true _ _ e) hb
+    go false e =
+        let other : length a ≡ 32 → ⊥ = eqb-false _ _ e in
+        left-no-key a b other ∙ sym (lengths-differ a b (λ same. other (omega arith)))
 
 -- ---- the same key is the same bytes
 

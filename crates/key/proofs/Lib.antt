@@ -1,2 +1,3 @@
 pub mod Laws
+pub mod Theorems
 pub mod Words

@@ -15,7 +15,7 @@ use Rattle.number.proofs.Laws.{bytesOf-number, bytes-drop, bytes-take, number-t
 use Rattle.key.specs.Key.{sameBytes}
 use Rattle.key.proofs.Laws.{same-bytes-eq, same-bytes-refl, same-bytes-end}
 
-pub same-number : (a b : List ℕ) → Bytes a → Bytes b → length a ≡ length b → sameBytes a b ≡ eqb (number a) (number b)
+same-number : (a b : List ℕ) → Bytes a → Bytes b → length a ≡ length b → sameBytes a b ≡ eqb (number a) (number b)
 same-number a b ha hb long = go (sameBytes a b) refl
   where
     back : number a ≡ number b → a ≡ b
@@ -36,17 +36,18 @@ same-append [] (b ∷ y) xs ys h = absurd (omega arith)
 same-append (a ∷ x) [] xs ys h = absurd (omega arith)
 same-append (a ∷ x) (b ∷ y) xs ys h = rw (same-append x y xs ys (omega arith)) (sym (and-assoc (eqb a b) _ _))
 
--- the next `width` bytes are compared as one number
+-- the `width` bytes at a place are compared as one number
 module _ (width : ℕ) (a b : List ℕ) (ha : Bytes a) (hb : Bytes b) (i : ℕ) (ia : i + width ≤ length a) (ib : i + width ≤ length b) where
-  pub word-step : sameBytes (drop i a) (drop i b) ≡ (eqb (numberAt width a i) (numberAt width b i) && sameBytes (drop (i + width) a) (drop (i + width) b))
+  pub word-first : (xs ys : List ℕ) → sameBytes (take width (drop i a) ++ xs) (take width (drop i b) ++ ys) ≡ (eqb (numberAt width a i) (numberAt width b i) && sameBytes xs ys)
+  word-first xs ys =
+      let long : length (take width (drop i a)) ≡ length (take width (drop i b)) =
+      length-take-le width (drop i a) (simp length-drop (omega arith)) ∙ sym (length-take-le width (drop i b) (simp length-drop (omega arith))) in
+      let here = same-number (take width (drop i a)) (take width (drop i b)) (bytes-take width (drop i a) (bytes-drop i a ha)) (bytes-take width (drop i b) (bytes-drop i b hb)) long in
+      rw (number-there width a i ia, number-there width b i ib, ← here) (same-append _ _ xs ys long)
+
+  word-step : sameBytes (drop i a) (drop i b) ≡ (eqb (numberAt width a i) (numberAt width b i) && sameBytes (drop (i + width) a) (drop (i + width) b))
   word-step =
-      let la : length (take width (drop i a)) ≡ width = length-take-le width (drop i a) (simp length-drop (omega arith)) in
-      let lb : length (take width (drop i b)) ≡ width = length-take-le width (drop i b) (simp length-drop (omega arith)) in
-      let here =
-      same-number (take width (drop i a)) (take width (drop i b)) (bytes-take width (drop i a) (bytes-drop i a ha)) (bytes-take width (drop i b) (bytes-drop i b hb))
-      (la ∙ sym lb) in
-      let whole = same-append (take width (drop i a)) (take width (drop i b)) (drop width (drop i a)) (drop width (drop i b)) (la ∙ sym lb) in
-      rw (number-there width a i ia, number-there width b i ib, ← here, ← (drop-drop width i a), ← (drop-drop width i b), ← whole, take-append-drop, take-append-drop)
+      rw (← (drop-drop width i a), ← (drop-drop width i b), ← (word-first (drop width (drop i a)) (drop width (drop i b))), take-append-drop width (drop i a), take-append-drop width (drop i b))
 
   module _ (x y : ℕ) (ex : x ≡ numberAt width a i) (ey : y ≡ numberAt width b i) where
     pub word-differs : (x ≡ y → ⊥) → sameBytes (drop i a) (drop i b) ≡ false

@@ -1,37 +1,12 @@
 // Keys of 32 bytes. Every comparison of keys goes through `same_key`.
 ghost use mathlib.Core.Path.{_≡_};
-ghost use Rattle.key.specs.Key.{sameBytes, sameKey};
+ghost use Rattle.key.specs.Key.{sameKey};
 ghost use Rattle.key.specs.Views.{keyFrom};
 
 pub const KEY_LENGTH: usize = 32;
 
 pub struct Key {
     pub bytes: [u8; 32],
-}
-
-// Whether two rows of bytes are the same: eight at a time, the first difference deciding, and what is
-// left byte by byte.
-pub fn same_bytes(a: &[u8], b: &[u8]) -> bool
-    ensures { λ r. ⌜ r ≡ sameBytes (now (a .entry)) (now (b .entry)) ⌝ }
-{
-    let n = a.len();
-    if b.len() != n {
-        return false;
-    }
-    let mut i = 0;
-    while 8 <= n - i {
-        if number::read_u64(a, i) != number::read_u64(b, i) {
-            return false;
-        }
-        i += 8;
-    }
-    while i < n {
-        if a[i] != b[i] {
-            return false;
-        }
-        i += 1;
-    }
-    true
 }
 
 // Whether both are keys and the same; a length other than 32 is no key. Keys mostly differ in their

@@ -36,9 +36,6 @@ number-floored-difference _ _ = (tt, λ _ _ p q. both (one-outcome p q) refl)
 pub part-part-at : OneOutcomeOfSlice part.part_at.ended part.part_at.Reads.Pre part.part_at.Reads.Post
 part-part-at _ _ = (tt, λ _ _ p q. both (one-outcome p q) refl)
 
-pub key-same-bytes : OneOutcome key.same_bytes.ended key.same_bytes.Reads.Pre key.same_bytes.Reads.Post
-key-same-bytes _ _ = (tt, λ _ _ p q. both (one-outcome p q) refl)
-
 pub key-same-key : OneOutcome key.same_key.ended key.same_key.Reads.Pre key.same_key.Reads.Post
 key-same-key _ _ = (tt, λ _ _ p q. both (one-outcome p q) refl)
 
