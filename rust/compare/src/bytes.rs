@@ -44,6 +44,11 @@ impl<'a> Cursor<'a> {
     }
 }
 
+/// Changes one bit: the lowest of the first byte is bit 0.
+pub fn change_bit(bytes: &mut [u8], bit: usize) {
+    bytes[bit / 8] ^= 1 << (bit % 8);
+}
+
 /// The bytes in lower-case hex.
 pub fn hex(bytes: &[u8]) -> String {
     bytes.iter().fold(String::new(), |mut text, byte| {

@@ -34,6 +34,20 @@ pub struct Call {
 }
 
 impl Call {
+    /// A call at slot 1 without instructions and lamports.
+    pub fn quiet(vault: Key, before: &[Record], after: &[Record]) -> Self {
+        Self {
+            before: table::encode(before),
+            after: table::encode(after),
+            instructions: vec![0],
+            vault,
+            slot: 1,
+            lamports_before: 0,
+            lamports_after: 0,
+            gross: 0,
+        }
+    }
+
     /// How many records of its tables only the published code takes for token
     /// accounts. Where a table is malformed no record is looked at.
     pub fn only_published(&self) -> usize {

@@ -14,11 +14,11 @@ use crate::{
 /// The sample is drawn from this seed.
 const SEED: u64 = 1;
 
-/// So many cases of a kind: among them are every place of a key, every two
-/// breaches of creation, every prefix of a stream, and the named entries, tables
-/// and calls.
+/// So many cases of a kind: among them are every two breaches of creation, every
+/// prefix of a stream, and the named pairs of keys, entries, tables and calls.
 fn cases_of(kind: Kind) -> u64 {
     match kind {
+        Kind::SameKey => 480,
         Kind::Judge => 130,
         Kind::Create | Kind::Read => 100,
         Kind::Resolve => 80,

@@ -136,8 +136,13 @@ fn each_breach_has_its_number_alone_and_beside_another() {
 fn every_kind_of_vector_reaches_its_answers() {
     let Published(oracle) = published();
     for kind in KINDS {
-        // The judged call has the most answers, and most of its cases are accepted.
-        let cases = if kind == Kind::Judge { CASES } else { 200 };
+        let cases = match kind {
+            // It has the most answers, and most of its cases are accepted.
+            Kind::Judge => CASES,
+            // Hundreds are wanted by name, one of them the same.
+            Kind::SameKey => 700,
+            _ => 200,
+        };
         let mut sorts = Vec::new();
         for number in 0..cases {
             let case = draw(&mut Chance::new(number), kind, number);

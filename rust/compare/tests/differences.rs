@@ -73,16 +73,12 @@ fn holding(layout: Layout, amount: u64) -> Record {
 
 /// A call without instructions on tables that hold so many of the mint's tokens.
 fn call(slot: u64, lamports: u64, tokens: [u64; 2]) -> Call {
-    let table = |amount| table::encode(&[holding(Layout::plain(SPL_TOKEN), amount)]);
+    let [before, after] = tokens.map(|amount| [holding(Layout::plain(SPL_TOKEN), amount)]);
     Call {
-        before: table(tokens[0]),
-        after: table(tokens[1]),
-        instructions: vec![0],
-        vault: VAULT,
         slot,
         lamports_before: lamports,
-        lamports_after: 0,
         gross: lamports,
+        ..Call::quiet(VAULT, &before, &after)
     }
 }
 

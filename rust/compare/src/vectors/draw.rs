@@ -1,6 +1,6 @@
 //! Payloads by chance.
 
-use super::{indexes, judging, writing, Case, Kind};
+use super::{indexes, judging, pairs, writing, Case, Kind};
 use crate::{chance::Chance, creation, stream, Key};
 
 /// A case of a kind. Its number spreads what is to be met in every long enough
@@ -17,7 +17,7 @@ pub fn draw(chance: &mut Chance, kind: Kind, number: u64) -> Case {
             [&place.to_le_bytes()[..], &value.to_le_bytes(), &data].concat()
         }
         Kind::CappedSum | Kind::FlooredDifference => pair(chance).map(u64::to_le_bytes).concat(),
-        Kind::SameKey => same_key(chance, number),
+        Kind::SameKey => pairs::nth(chance, number),
         Kind::KeyList => key_list(chance, number),
         Kind::Create => creation::nth(chance, number),
         Kind::Read => stream::nth(chance, number),
@@ -54,34 +54,6 @@ fn pair(chance: &mut Chance) -> [u64; 2] {
         _ => chance.around(a),
     };
     [a, b]
-}
-
-/// By turns two keys that differ in one byte, at each place in turn, and two
-/// that are equal or of other lengths.
-fn same_key(chance: &mut Chance, number: u64) -> Vec<u8> {
-    let key = chance.key();
-    let place = (number / 2 % 32) as usize;
-    let (first, second) = match number % 2 {
-        0 => (key.to_vec(), chance.differing_at(&key, place).to_vec()),
-        _ => match chance.below(4) {
-            0 | 1 => (key.to_vec(), key.to_vec()),
-            2 => {
-                // Equal, and yet no keys.
-                let len = chance.pick(&[0, 8, 31, 33, 64]);
-                let bytes = chance.bytes(len);
-                (bytes.clone(), bytes)
-            }
-            _ => {
-                let mut other = key.to_vec();
-                other.resize(chance.pick(&[0, 31, 33, 64]), 0);
-                match chance.one_in(2) {
-                    true => (key.to_vec(), other),
-                    false => (other, key.to_vec()),
-                }
-            }
-        },
-    };
-    [&(first.len() as u32).to_le_bytes()[..], &first, &second].concat()
 }
 
 /// A row of keys with repeats, and the last one: of the row or near one of it.

@@ -9,6 +9,7 @@ mod entries;
 mod indexes;
 mod judging;
 mod named;
+mod pairs;
 mod program;
 mod token_accounts;
 mod writing;

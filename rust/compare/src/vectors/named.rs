@@ -179,18 +179,9 @@ pub fn held(layout: &Layout, key: u8, amount: u64) -> Record {
     layout.record([key; 32], &MINT, &VAULT, amount)
 }
 
-/// A call without instructions and lamports.
+/// A quiet call of the vault.
 pub fn quiet(before: &[Record], after: &[Record]) -> Call {
-    Call {
-        before: table::encode(before),
-        after: table::encode(after),
-        instructions: vec![0],
-        vault: VAULT,
-        slot: 1,
-        lamports_before: 0,
-        lamports_after: 0,
-        gross: 0,
-    }
+    Call::quiet(VAULT, before, after)
 }
 
 #[cfg(test)]

@@ -8,7 +8,7 @@ mod reading;
 use std::collections::BTreeMap;
 
 use compare::{
-    bytes::{hex, Cursor},
+    bytes::{change_bit, hex, Cursor},
     calls,
     chance::Chance,
     creation,
@@ -217,7 +217,7 @@ fn every_bit_of_every_part() {
         let len = part(&mut region.clone(), &mut inputs.clone()).len();
         for bit in 0..8 * len {
             let (mut region, mut inputs) = (region.clone(), inputs.clone());
-            part(&mut region, &mut inputs)[bit / 8] ^= 1 << (bit % 8);
+            change_bit(part(&mut region, &mut inputs), bit);
             *met.entry(judged(&region, &inputs)).or_insert(0) += 1;
         }
     }
