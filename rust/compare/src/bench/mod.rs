@@ -6,7 +6,7 @@
 //! a call, so it is not timed.
 
 mod clock;
-mod mixes;
+pub mod mixes;
 
 use std::{
     cell::RefCell,
