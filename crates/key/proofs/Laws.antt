@@ -1,28 +1,15 @@
--- The laws of comparing keys, byte by byte as the loop goes, and of the key of a part.
+-- The laws of comparing keys, and of the key of a part.
 -- Assumes nothing.
 use mathlib.Core.Path.{_≡_, refl, sym, ap₂, _∙_}
 use mathlib.Core.Bool.{Bool, true, false, _&&_, and-false, and-eq-true-iff}
 use mathlib.Core.List.{List, [], _∷_}
-use Prim.Native.Nat.{ℕ, suc, _<_, _≤_}
+use Prim.Native.Nat.{ℕ, _≤_}
 use native.Mathlib.Omega.{arith}
 use borrow.Author.Tests.{eq-eqb, ne-eqb, eqb-true, eqb-false}
 use lib.Dec.{eqb}
-use lib.ListN.{length, getD, drop, drop-of-length-le}
-use lib.Seq.{drop-cons}
+use lib.ListN.{length, drop, drop-of-length-le}
 use Rattle.key.specs.Key.{sameBytes, sameKey}
 use Rattle.key.specs.Views.{zeroKey, keyFrom}
-
--- the byte at `i`, and those after it
-module _ (a b : List ℕ) (i : ℕ) (ia : i < length a) (ib : i < length b) where
-  byte-step : sameBytes (drop i a) (drop i b) ≡ (eqb (getD a i 0) (getD b i 0) && sameBytes (drop (suc i) a) (drop (suc i) b))
-  unfolding sameBytes
-  byte-step = rw (drop-cons a i 0, drop-cons b i 0)
-
-  pub byte-differs : (getD a i 0 ≡ getD b i 0 → ⊥) → sameBytes (drop i a) (drop i b) ≡ false
-  byte-differs h = rw (ne-eqb _ _ h) at byte-step
-
-  pub byte-same : getD a i 0 ≡ getD b i 0 → sameBytes (drop i a) (drop i b) ≡ sameBytes (drop (suc i) a) (drop (suc i) b)
-  byte-same h = rw (eq-eqb _ _ h) at byte-step
 
 pub same-bytes-end : (a b : List ℕ) (i : ℕ) → length a ≤ i → length b ≤ i → sameBytes (drop i a) (drop i b) ≡ true
 unfolding sameBytes

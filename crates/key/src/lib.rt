@@ -9,7 +9,8 @@ pub struct Key {
     pub bytes: [u8; 32],
 }
 
-// Whether both are keys and the same; a length other than 32 is no key.
+// Whether both are keys and the same; a length other than 32 is no key. Keys mostly differ in their
+// first eight bytes, and four tests in a row are short enough to stand wherever keys are compared.
 pub fn same_key(a: &[u8], b: &[u8]) -> bool
     ensures { λ r. ⌜ r ≡ sameKey (now (a .entry)) (now (b .entry)) ⌝ }
 {
@@ -19,14 +20,16 @@ pub fn same_key(a: &[u8], b: &[u8]) -> bool
     if b.len() != KEY_LENGTH {
         return false;
     }
-    let mut i = 0;
-    while i < a.len() {
-        if a[i] != b[i] {
-            return false;
-        }
-        i += 1;
+    if number::read_u64(a, 0) != number::read_u64(b, 0) {
+        return false;
     }
-    true
+    if number::read_u64(a, 8) != number::read_u64(b, 8) {
+        return false;
+    }
+    if number::read_u64(a, 16) != number::read_u64(b, 16) {
+        return false;
+    }
+    number::read_u64(a, 24) == number::read_u64(b, 24)
 }
 
 // The key of a part that has its length, and zeros for any other.
