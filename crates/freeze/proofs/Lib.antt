@@ -1,4 +1,4 @@
-pub mod Authorities
 pub mod AsNamed
+pub mod Authorities
 pub mod Freezing
 pub mod Theorems
