@@ -20,7 +20,7 @@ const NOBODY: Key = [0; 32];
 /// the same and where it is not, and a region and a call that have the other.
 type Place = (&'static str, Key, u32, u32, fn(Key) -> (Vec<u8>, Call));
 
-const PLACES: [Place; 12] = [
+const PLACES: [Place; 13] = [
     ("the mints of two limits", MINT, 15, 0, |mint| {
         let limits = [MINT, mint].map(|mint| Rule::TokenLimit(mint, 1));
         (lasting(&limits), Call::quiet(VAULT, &[], &[]))
@@ -33,6 +33,10 @@ const PLACES: [Place; 12] = [
     }),
     ("a limit's mint", MINT, 10, 0, |mint| {
         (limit(mint), spending(SPL_TOKEN, VAULT))
+    }),
+    ("a mint beside another limit's", MINT, 9, 0, |mint| {
+        let limits = [Rule::TokenLimit(MINT, 2), Rule::TokenMaxPerTx(mint, 1)];
+        (lasting(&limits), spending(SPL_TOKEN, VAULT))
     }),
     ("an account's holder", VAULT, 10, 0, |holder| {
         (limit(MINT), spending(SPL_TOKEN, holder))
