@@ -1,10 +1,12 @@
 //! Judges the calls of one mix of `compare bench` once, through the archive, for
-//! a profiler to count:
+//! a profiler to count. In `rust/`:
 //!
+//!     cargo build --release -p compare --example judged
 //!     valgrind --tool=callgrind --collect-atstart=no --toggle-collect=thimbleford_judge \
 //!         target/release/examples/judged '1 record, 1 limit, 1 mint'
 //!
-//! What was collected, by the number that is printed, is one judged call.
+//! What was collected, divided by the number of calls that is printed, is one
+//! judged call.
 
 use std::process::ExitCode;
 
