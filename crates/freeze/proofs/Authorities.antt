@@ -1,7 +1,7 @@
 -- The frozen fields, which the code compares as keys: a key, and two keys with a tag of four bytes before them. Where the second account's
 -- data has them, they are the same exactly where the bytes are.
 -- Assumes nothing.
-use mathlib.Core.Path.{_≡_, refl, sym, _∙_}
+use mathlib.Core.Path.{_≡_, refl, sym}
 use mathlib.Core.Bool.{Bool, true, false, _&&_, and-false}
 use mathlib.Core.List.{List, _++_}
 use Prim.Native.Nat.{ℕ, _+_, _<_, _≤_}
@@ -13,7 +13,6 @@ use lib.Seq.{take-add, drop-drop}
 use Rattle.number.specs.Number.{Bytes, numberAt}
 use Rattle.part.specs.Part.{partAt}
 use Rattle.part.proofs.Laws.{part-there, part-past, length-part-there}
-use Rattle.key.specs.Key.{sameBytes, sameKey}
 use Rattle.key.proofs.Laws.{lengths-differ, left-no-key, right-no-key, key-compared}
 use Rattle.key.proofs.Words.{word-first}
 use Rattle.token.specs.Tokens.{tokenAccountLength}

@@ -22,10 +22,6 @@ lengths-differ [] (y ∷ b) h = refl
 lengths-differ (x ∷ a) [] h = refl
 lengths-differ (x ∷ a) (y ∷ b) h = rw (lengths-differ a b (λ e. h (omega arith))) (and-false (eqb x y))
 
-pub keys-compared : (a b : List ℕ) → length a ≡ 32 → length b ≡ 32 → sameKey a b ≡ sameBytes a b
-unfolding sameKey
-keys-compared a b ha hb = rw (eq-eqb _ _ ha, eq-eqb _ _ hb)
-
 pub left-no-key : (a b : List ℕ) → (length a ≡ 32 → ⊥) → sameKey a b ≡ false
 unfolding sameKey
 left-no-key a b h = rw (ne-eqb _ _ h)
@@ -36,10 +32,11 @@ right-no-key a b h = rw (ne-eqb _ _ h, and-false)
 
 -- where one is a key the bytes decide
 pub key-compared : (a b : List ℕ) → length b ≡ 32 → sameKey a b ≡ sameBytes a b
+unfolding sameKey
 key-compared a b hb = go (eqb (length a) 32) refl
   where
     go : (t : Bool) → eqb (length a) 32 ≡ t → sameKey a b ≡ sameBytes a b
-    go true e = keys-compared a b (eqb-true _ _ e) hb
+    go true e = rw (e, eq-eqb _ _ hb)
     go false e =
         let other : length a ≡ 32 → ⊥ = eqb-false _ _ e in
         left-no-key a b other ∙ sym (lengths-differ a b (λ same. other (omega arith)))
@@ -65,7 +62,7 @@ unfolding sameKey
 same-key-eq a b e = same-bytes-eq a b (and-eq-true-iff (eqb (length a) 32 && eqb (length b) 32) _ .0 e .1)
 
 pub same-key-refl : (a : List ℕ) → length a ≡ 32 → sameKey a a ≡ true
-same-key-refl a h = keys-compared a a h h ∙ same-bytes-refl a
+same-key-refl a h = key-compared a a h ∙ same-bytes-refl a
 
 -- ---- the key of a part
 

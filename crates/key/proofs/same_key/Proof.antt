@@ -8,7 +8,7 @@ use borrow.Author.Needs.{needs}
 use lib.ListN.{drop}
 use Rattle.number.specs.Number.{Bytes}
 use Rattle.key.specs.Key.{sameBytes, sameKey}
-use Rattle.key.proofs.Laws.{keys-compared, left-no-key, right-no-key}
+use Rattle.key.proofs.Laws.{key-compared, left-no-key, right-no-key}
 use Rattle.key.proofs.Words.{word-differs, word-same, last-word}
 use Rattle.key.proofs.same_key.Statement.{statement}
 use Rattle.key.proofs.same_key.Tie as tie
@@ -28,7 +28,7 @@ bytes-b : (e : tie.Else2) → Bytes (keyB e)
 bytes-b e k = omega (arith, e .before .before .shared-slice-known2 .given k)
 
 none-same : (e : tie.Else2) → sameKey (keyA e) (keyB e) ≡ sameBytes (keyA e) (keyB e)
-none-same e = keys-compared (keyA e) (keyB e) (omega arith) (omega arith)
+none-same e = key-compared (keyA e) (keyB e) (omega arith)
 
 -- past each word that is the same, the rest decides
 
