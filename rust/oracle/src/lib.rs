@@ -3,8 +3,8 @@
 //! document 01's numbers.
 //!
 //! The sources are no part of this repository. `build.rs` says where they are
-//! looked for; where they are missing the crate still builds, and
-//! [`Oracle::find`] has nothing to give.
+//! looked for, and stops where they are not those of [`COMMIT`]; where they are
+//! missing the crate still builds, and [`Oracle::find`] has nothing to give.
 //!
 //! The modules named after the platform's crate stand in for it: the published
 //! code asks for `pinocchio`, and this crate answers to that name.
@@ -29,6 +29,9 @@ mod numbers;
 mod published;
 
 pub use account_info::AccountInfo as Record;
+
+/// The commit of lazor-kit/program-v2 whose files are compiled, told by their digests.
+pub const COMMIT: &str = env!("LAZORKIT_COMMIT");
 
 /// Whether the published sources were found when this crate was built.
 pub const AVAILABLE: bool = cfg!(oracle_sources);
