@@ -21,7 +21,7 @@ const SEED: u64 = 1;
 
 fn main() -> ExitCode {
     let made = growth(SEED);
-    let drawn = Oracle::find().map_or_else(Vec::new, |oracle| mixes(&oracle, SEED));
+    let drawn = Oracle::find().map_or(vec![], |oracle| mixes(&oracle, SEED));
     let wanted = std::env::args().nth(1).unwrap_or_default();
     let all: Vec<Mix> = made.into_iter().chain(drawn).collect();
     let Some(mix) = all.iter().find(|mix| mix.name == wanted) else {

@@ -22,7 +22,8 @@ compare run [--cases N] [--seed S] [--found FILE]
     else THIMBLEFORD_VECTORS names it.
     A drawn call with a record that only the published Rust takes for a token
     account is left out; it says how many are, as `replay` does.
-    Fails where an answer differs or a number is never reached.
+    Exits with 1 where an answer differs, else with 3 where a number is never
+    reached.
 
 compare again FILE
     Compares the archive on the case of a FILE that `run` wrote.
@@ -34,7 +35,8 @@ compare replay [--runs N] [--seed S] --program PATH
     Compares what the program `replay` at PATH prints: on the runs that have
     names, then on N (100) runs of up to 200 calls on one region, drawn from the
     seed S (1). Half of these are cut short, or have too much in them.
-    Fails where a text differs, or a number or an ending is never reached.
+    Exits with 1 where a text differs, else with 3 where a number or an ending is
+    never reached.
 
 compare samples [--out DIR]
     Writes the small ones of the runs that have names, and what `replay` has to
@@ -42,12 +44,16 @@ compare samples [--out DIR]
 
 compare record [--out DIR] [--check]
     Writes the recorded sample of `vectors` to DIR/stdin and DIR/stdout (DIR is
-    crates/vectors of the repository), or checks that it is there.
+    crates/vectors of the repository), or exits with 1 where it is not there.
 
 compare answer
     Answers cases from standard input as `vectors` has to.
 
-Exit status: 0 as expected, 1 a difference, 2 the comparison could not be made.
+Without the sources of lazor-kit/program-v2, which are looked for when this is
+built, each exits with 2 and says where that was.
+
+Exit status: 0 as expected, 1 a difference, 2 the comparison could not be made,
+3 no difference, and too few cases to reach every number.
 ";
 
 /// What the command line asks for.

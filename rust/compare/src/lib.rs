@@ -8,7 +8,7 @@
 //! the smallest case that shows it ([`shrink`]). [`mod@bench`] times both sides.
 //!
 //! Where the published sources were not found the crate builds, and tests what
-//! it can; [`NOT_RUN`] is the line that says so.
+//! it can; [`NOTHING_COMPARED`] is said before the reason.
 
 pub mod aim;
 pub mod bench;
@@ -37,6 +37,5 @@ pub mod world;
 /// A key of 32 bytes.
 pub type Key = [u8; 32];
 
-/// Said where there is nothing to compare with.
-pub const NOT_RUN: &str =
-    "compare: the published sources were not found, so the comparison was not run";
+/// Said where there is nothing to compare with, before where it was looked for.
+pub const NOTHING_COMPARED: &str = "compare: nothing was compared:";

@@ -15,11 +15,13 @@ use arguments::{Comparison, Task, HELP};
 use compare::{
     bench, program,
     record::Sample,
-    replay, runner,
+    replay,
+    report::Outcome,
+    runner,
     runs::Run,
     subjects::{Archive, Published},
     vectors::{self, answer, decode, KINDS},
-    NOT_RUN,
+    NOTHING_COMPARED,
 };
 use oracle::Oracle;
 
@@ -35,9 +37,17 @@ fn main() -> ExitCode {
             return ExitCode::from(2);
         }
     };
-    match perform(task) {
-        Ok(true) => ExitCode::SUCCESS,
-        Ok(false) => ExitCode::from(1),
+    let oracle = match Oracle::find() {
+        Ok(oracle) => oracle,
+        Err(absent) => {
+            eprintln!("{} {absent}", without_sources(&task));
+            return ExitCode::from(2);
+        }
+    };
+    match perform(oracle, task) {
+        Ok(Outcome::AsExpected) => ExitCode::SUCCESS,
+        Ok(Outcome::Differs) => ExitCode::from(1),
+        Ok(Outcome::TooFew) => ExitCode::from(3),
         Err(error) => {
             eprintln!("compare: {error}");
             ExitCode::from(2)
@@ -45,24 +55,25 @@ fn main() -> ExitCode {
     }
 }
 
-/// Whether all is as expected.
-fn perform(task: Task) -> Result<bool, Box<dyn Error>> {
-    let Some(oracle) = Oracle::find() else {
-        return match task {
-            Task::Run(_) | Task::Replay { .. } | Task::Record { check: true, .. } => {
-                eprintln!("{NOT_RUN}");
-                Ok(true)
-            }
-            // Nothing can be written, answered or timed without them.
-            _ => Err("the published sources were not found".into()),
-        };
-    };
+/// What is said before where the published sources were looked for.
+fn without_sources(task: &Task) -> &'static str {
+    match task {
+        Task::Run(_)
+        | Task::Again { .. }
+        | Task::Replay { .. }
+        | Task::Record { check: true, .. } => NOTHING_COMPARED,
+        // Nothing can be written, answered or timed without them.
+        _ => "compare: the published sources were not found:",
+    }
+}
+
+fn perform(oracle: Oracle, task: Task) -> Result<Outcome, Box<dyn Error>> {
     match task {
         Task::Run(comparison) => run(oracle, comparison),
         Task::Again { file } => again(oracle, &file),
         Task::Bench { seed } => {
             bench::run(&oracle, seed, &mut io::stdout().lock())?;
-            Ok(true)
+            Ok(Outcome::AsExpected)
         }
         Task::Replay {
             runs,
@@ -73,22 +84,22 @@ fn perform(task: Task) -> Result<bool, Box<dyn Error>> {
             let mut prints = |input| program::output(&mut program, input);
             let report = replay::compare(&mut Published(oracle), &mut prints, seed, runs)?;
             print!("{report}");
-            Ok(report.passed())
+            Ok(report.outcome())
         }
         Task::Samples { out } => {
             replay::write_samples(&mut Published(oracle), &out)?;
-            Ok(true)
+            Ok(Outcome::AsExpected)
         }
         Task::Record { out, check: false } => {
             Sample::draw(&oracle).write(&out)?;
-            Ok(true)
+            Ok(Outcome::AsExpected)
         }
         Task::Record { out, check: true } => {
-            let recorded = Sample::draw(&oracle).is_recorded(&out);
-            if !recorded {
-                eprintln!("compare: {} is not what would be recorded", out.display());
+            if Sample::draw(&oracle).is_recorded(&out) {
+                return Ok(Outcome::AsExpected);
             }
-            Ok(recorded)
+            eprintln!("compare: {} is not what would be recorded", out.display());
+            Ok(Outcome::Differs)
         }
         Task::Answer => {
             let mut input = Vec::new();
@@ -99,13 +110,13 @@ fn perform(task: Task) -> Result<bool, Box<dyn Error>> {
                 let answer = answer(&oracle, case).ok_or("a payload is too short")?;
                 writeln!(output, "{}", answer.line)?;
             }
-            Ok(true)
+            Ok(Outcome::AsExpected)
         }
     }
 }
 
 /// Compares the archive, and the program `vectors` where it is named.
-fn run(oracle: Oracle, comparison: Comparison) -> Result<bool, Box<dyn Error>> {
+fn run(oracle: Oracle, comparison: Comparison) -> Result<Outcome, Box<dyn Error>> {
     let Comparison {
         cases,
         seed,
@@ -120,22 +131,22 @@ fn run(oracle: Oracle, comparison: Comparison) -> Result<bool, Box<dyn Error>> {
         fs::write(&found, run.to_string())?;
         println!("the smallest: compare again {}", found.display());
     }
-    let mut passed = report.passed();
+    let mut outcome = report.outcome();
     match vectors {
         Some(program) => {
             println!("through the program vectors, {vectors_cases} cases, seed {seed}");
             let mut program = Command::new(program);
             let report = vectors::compare(&oracle, &mut program, &KINDS, seed, vectors_cases)?;
             print!("{report}");
-            passed &= report.passed();
+            outcome = outcome.max(report.outcome());
         }
         None => eprintln!("compare: no program `vectors` was named, so it was not compared"),
     }
-    Ok(passed)
+    Ok(outcome)
 }
 
 /// Compares the archive on the case of a file.
-fn again(oracle: Oracle, file: &Path) -> Result<bool, Box<dyn Error>> {
+fn again(oracle: Oracle, file: &Path) -> Result<Outcome, Box<dyn Error>> {
     let run: Run = fs::read_to_string(file)?.parse()?;
     match run.only_published() {
         0 => {}
@@ -143,9 +154,14 @@ fn again(oracle: Oracle, file: &Path) -> Result<bool, Box<dyn Error>> {
     }
     let mut seen = |number| println!("expected {}", compare::numbers::name(number));
     let parting = runner::parting(&mut Published(oracle), &mut Archive, &run, &mut seen);
-    match &parting {
-        Some(parting) => print!("{parting}"),
-        None => println!("no difference"),
-    }
-    Ok(parting.is_none())
+    Ok(match parting {
+        Some(parting) => {
+            print!("{parting}");
+            Outcome::Differs
+        }
+        None => {
+            println!("no difference");
+            Outcome::AsExpected
+        }
+    })
 }

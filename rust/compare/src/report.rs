@@ -40,6 +40,18 @@ pub struct LeftOut {
     pub records: usize,
 }
 
+/// What came of a comparison. Of two the greater one counts: a difference more
+/// than an answer that was never reached.
+#[derive(Clone, Copy, Debug, PartialEq, Eq, PartialOrd, Ord)]
+pub enum Outcome {
+    /// Nothing differed, and every answer was reached.
+    AsExpected,
+    /// Nothing differed, and there were too few cases to reach every answer.
+    TooFew,
+    /// Something differed.
+    Differs,
+}
+
 /// The result of a comparison.
 pub struct Report {
     domains: Vec<Domain>,
@@ -118,9 +130,18 @@ impl Report {
             .collect()
     }
 
+    /// What came of it.
+    pub fn outcome(&self) -> Outcome {
+        match self.differences {
+            0 if self.missing().is_empty() => Outcome::AsExpected,
+            0 => Outcome::TooFew,
+            _ => Outcome::Differs,
+        }
+    }
+
     /// Whether nothing differed and every answer was reached.
     pub fn passed(&self) -> bool {
-        self.differences == 0 && self.missing().is_empty()
+        self.outcome() == Outcome::AsExpected
     }
 }
 
@@ -142,12 +163,21 @@ impl fmt::Display for Report {
         for difference in &self.kept {
             write!(f, "{difference}")?;
         }
-        for (function, answer) in self.missing() {
+        let missing = self.missing();
+        for (function, answer) in &missing {
             writeln!(f, "never reached: {function}, {answer}")?;
         }
-        match self.differences {
-            0 => writeln!(f, "no difference"),
-            all => writeln!(f, "{all} differences, {} shown", self.kept.len()),
+        match self.outcome() {
+            Outcome::AsExpected => writeln!(f, "no difference"),
+            Outcome::TooFew => writeln!(
+                f,
+                "no difference, and too few cases: {} answers were never reached",
+                missing.len()
+            ),
+            Outcome::Differs => {
+                let (all, shown) = (self.differences, self.kept.len());
+                writeln!(f, "{all} differences, {shown} shown")
+            }
         }
     }
 }

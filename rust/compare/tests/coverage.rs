@@ -7,7 +7,7 @@ use compare::{
     creation,
     numbers::{self, CREATION, JUDGING, RUNNING},
     region,
-    report::LeftOut,
+    report::{LeftOut, Outcome},
     runner::{self, CREATE, JUDGE, RUN},
     stream,
     subjects::{Published, Subject},
@@ -27,7 +27,8 @@ fn published() -> Published {
 #[cfg(not(oracle_sources))]
 fn says_that_the_comparison_is_not_run() {
     use std::io::{self, Write};
-    writeln!(io::stderr(), "{}", compare::NOT_RUN).unwrap();
+    let absent = Oracle::find().expect_err("the sources were not found");
+    writeln!(io::stderr(), "{} {absent}", compare::NOTHING_COMPARED).unwrap();
 }
 
 #[test]
@@ -83,7 +84,7 @@ fn what_is_left_out_is_counted() {
 }
 
 #[test]
-fn a_number_that_is_never_reached_fails() {
+fn a_number_that_is_never_reached_is_no_difference() {
     /// Agrees with itself, and reaches next to nothing.
     struct Refuses;
     impl Subject for Refuses {
@@ -95,14 +96,14 @@ fn a_number_that_is_never_reached_fails() {
         }
     }
     let report = runner::compare(&mut Refuses, &mut Refuses, 1, 50);
-    assert_eq!(report.differences(), 0);
-    assert!(!report.passed());
+    assert_eq!(report.outcome(), Outcome::TooFew);
     let missing = report.missing();
     assert_eq!(missing.len(), 2 + 12 + 10);
     assert!(missing.contains(&(CREATE, "0 accepted")));
-    assert!(report
-        .to_string()
-        .contains("never reached: judge, 7 Action"));
+    let text = report.to_string();
+    assert!(text.contains("never reached: judge, 7 Action"), "{text}");
+    let last = "no difference, and too few cases: 24 answers were never reached\n";
+    assert!(text.ends_with(last), "{text}");
 }
 
 #[test]

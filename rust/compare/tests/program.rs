@@ -10,7 +10,7 @@ use compare::{
     chance::Chance,
     runs,
     vectors::{self, KINDS},
-    NOT_RUN,
+    NOTHING_COMPARED,
 };
 use oracle::Oracle;
 
@@ -83,12 +83,40 @@ fn a_program_that_is_not_there_is_an_error() {
 #[test]
 fn what_is_not_compared_is_said_in_one_line() {
     let output = output(&["run", "--cases", "2000"]);
-    assert!(output.status.success());
+    let expected = if oracle::AVAILABLE { 0 } else { 2 };
+    assert_eq!(output.status.code(), Some(expected));
     let text = String::from_utf8(output.stderr).unwrap();
     assert_eq!(text.lines().count(), 1);
-    assert_eq!(text.trim_end() == NOT_RUN, !oracle::AVAILABLE);
+    assert_eq!(text.starts_with(NOTHING_COMPARED), !oracle::AVAILABLE);
     let text = String::from_utf8(output.stdout).unwrap();
     assert_eq!(text.ends_with("no difference\n"), oracle::AVAILABLE);
+}
+
+#[test]
+#[cfg_attr(not(oracle_sources), ignore)]
+fn too_few_cases_are_no_difference() {
+    let said = output(&["run", "--cases", "1"]);
+    assert_eq!(said.status.code(), Some(3));
+    let text = String::from_utf8(said.stdout).unwrap();
+    assert!(text.contains("never reached: create, "), "{text}");
+    let last = text.lines().last().unwrap();
+    assert!(
+        last.starts_with("no difference, and too few cases: "),
+        "{last}"
+    );
+}
+
+/// The runner without a command stands in for a program that prints nothing and
+/// fails. The named runs alone do not reach every number either.
+#[test]
+#[cfg_attr(not(oracle_sources), ignore)]
+fn a_difference_counts_more_than_too_few_cases() {
+    let wrong = env!("CARGO_BIN_EXE_compare");
+    let said = output(&["replay", "--runs", "0", "--program", wrong]);
+    assert_eq!(said.status.code(), Some(1));
+    let text = String::from_utf8(said.stdout).unwrap();
+    assert!(text.contains("never reached: "), "{text}");
+    assert!(text.ends_with(" shown\n"), "{text}");
 }
 
 #[test]

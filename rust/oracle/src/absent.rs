@@ -5,9 +5,10 @@ use crate::{Call, Instruction, Oracle, Record};
 
 #[allow(missing_docs)]
 impl Oracle {
-    /// The oracle, where the published sources were found. They were not.
-    pub fn find() -> Option<Self> {
-        None
+    /// The oracle, where the published sources were found, else where they were
+    /// looked for. They were not found.
+    pub fn find() -> Result<Self, &'static str> {
+        Err(env!("LAZORKIT_ABSENT"))
     }
 
     pub fn create(&self, _region: &[u8]) -> u32 {

@@ -4,7 +4,7 @@
 //!
 //! The sources are no part of this repository. `build.rs` says where they are
 //! looked for, and stops where they are not those of [`COMMIT`]; where they are
-//! missing the crate still builds, and [`Oracle::find`] has nothing to give.
+//! missing the crate still builds, and [`Oracle::find`] says so.
 //!
 //! The modules named after the platform's crate stand in for it: the published
 //! code asks for `pinocchio`, and this crate answers to that name.

@@ -16,9 +16,10 @@ use crate::{
 };
 
 impl Oracle {
-    /// The oracle, where the published sources were found.
-    pub fn find() -> Option<Self> {
-        Some(Self(Sources))
+    /// The oracle, where the published sources were found, else where they were
+    /// looked for.
+    pub fn find() -> Result<Self, &'static str> {
+        Ok(Self(Sources))
     }
 
     /// Creation: the number for a region.

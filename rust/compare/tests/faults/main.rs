@@ -11,7 +11,7 @@ use std::collections::HashSet;
 use compare::{
     calls::Call,
     region::{self, Action, Rule},
-    report::Report,
+    report::{Outcome, Report},
     runner,
     subjects::{Published, Subject},
     table::{self, AMOUNT},
@@ -45,7 +45,7 @@ fn report(judge: Judge) -> Report {
 /// Differences are found, in judged calls, and shown.
 fn is_found(judge: Judge) {
     let report = report(judge);
-    assert!(report.differences() > 0 && !report.passed(), "{report}");
+    assert_eq!(report.outcome(), Outcome::Differs, "{report}");
     let text = report.to_string();
     assert!(text.contains("difference: judge, seed 1, case "), "{text}");
 }

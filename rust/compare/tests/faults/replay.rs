@@ -4,7 +4,7 @@
 use compare::{
     calls::Call,
     replay::{self, ENDS},
-    report::Report,
+    report::{Outcome, Report},
     subjects::{Archive, Subject},
 };
 
@@ -135,8 +135,7 @@ fn the_second_program_is_right() {
 #[test]
 fn too_few_runs_fail() {
     let report = report(None, 0);
-    assert_eq!(report.differences(), 0);
-    assert!(!report.passed());
+    assert_eq!(report.outcome(), Outcome::TooFew);
     assert!(report.missing().iter().all(|(of, _)| *of != ENDS));
 }
 
@@ -145,7 +144,7 @@ fn each_fault_is_found_by_a_named_run() {
     for fault in FAULTS {
         let report = report(Some(fault), 0);
         let text = report.to_string();
-        assert!(report.differences() > 0, "{fault:?}: {text}");
+        assert_eq!(report.outcome(), Outcome::Differs, "{fault:?}: {text}");
         assert!(text.contains("difference: replay, seed 1, case "), "{text}");
     }
 }
