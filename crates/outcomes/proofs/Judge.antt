@@ -35,6 +35,9 @@ outflow-amounts _ _ = (tt, λ _ _ p q. both (one-outcome p q) refl)
 pub judge-judge : OneOutcome judge.judge.ended judge.judge.Reads.Pre judge.judge.Reads.Post
 judge-judge _ _ = (tt, λ _ _ p q. both (one-outcome (p .0) (q .0)) (both (one-outcome (p .1) (q .1)) refl))
 
+pub thimbleford-thimbleford-version : OneOutcome thimbleford.thimbleford_version.ended thimbleford.thimbleford_version.Reads.Pre thimbleford.thimbleford_version.Reads.Post
+thimbleford-thimbleford-version _ _ = (tt, λ _ _ p q. both (one-outcome p q) refl)
+
 pub thimbleford-thimbleford-create : OneOutcome thimbleford.thimbleford_create.ended thimbleford.thimbleford_create.Reads.Pre thimbleford.thimbleford_create.Reads.Post
 thimbleford-thimbleford-create _ _ = (tt, λ _ _ p q. both (one-outcome p q) refl)
 

@@ -1,9 +1,21 @@
-// The co-signer's boundary: creation and the judged call as C functions, each answering with a number of the table.
+// The co-signer's boundary: creation and the judged call as C functions, each answering with a number of the table, and
+// the version of the boundary.
 use creation::validate_actions_buffer;
 use judge::judge;
 ghost use mathlib.Core.Path.{_≡_};
 ghost use Rattle.creation.specs.Creation.{creation};
 ghost use Rattle.judge.specs.Judge.{callOf, judged, regionAfter};
+ghost use Rattle.thimbleford.specs.Boundary.{boundaryVersion};
+
+const BOUNDARY_VERSION: u32 = 1;
+
+// The boundary's version: whoever was made for another one asks before the first call, and calls nothing else.
+#[no_mangle]
+pub extern "C" fn thimbleford_version() -> u32
+    ensures { λ r. ⌜ r ≡ boundaryVersion ⌝ }
+{
+    BOUNDARY_VERSION
+}
 
 // What creation answers to a region.
 #[no_mangle]

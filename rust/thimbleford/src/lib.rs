@@ -52,6 +52,7 @@ mod refusal;
 pub mod region;
 pub mod table;
 
+pub use boundary::{archive_version, BOUNDARY_VERSION};
 pub use refusal::Refusal;
 
 /// The README's example is run with those of the crate.
@@ -98,7 +99,7 @@ pub struct Call<'a> {
 /// assert_eq!(create(&[1]), Err(Refusal::ActionBufferInvalid));
 /// ```
 pub fn create(region: &[u8]) -> Result<(), Refusal> {
-    Refusal::check(boundary::create(region))
+    boundary::create(region)
 }
 
 /// Judges a call on a stored region. An accepted one lowers what is left in the
@@ -143,5 +144,5 @@ pub fn create(region: &[u8]) -> Result<(), Refusal> {
 /// judge(&mut region, &within);
 /// ```
 pub fn judge(region: &mut [u8], call: &Call<'_>) -> Result<(), Refusal> {
-    Refusal::check(boundary::judge(region, call))
+    boundary::judge(region, call)
 }

@@ -2,6 +2,8 @@
 
 use std::{error::Error, fmt, num::NonZeroU32};
 
+use crate::BOUNDARY_VERSION;
+
 /// Makes the enum and its functions from one row for each refusal.
 macro_rules! refusals {
     ($($number:literal $refusal:ident $name:literal $sentence:literal)*) => {
@@ -29,21 +31,28 @@ macro_rules! refusals {
         pub enum Refusal {
             $(#[doc = concat!($number, ", ", $name, ". ", $sentence)] $refusal,)*
             /// A number that is not in the table. It is proved that none is
-            /// answered, so this says that another archive was linked than this
-            /// crate was made for. It is a refusal as any other: only 0 accepts, and
-            /// this number cannot be 0.
+            /// answered. It is a refusal as any other: only 0 accepts, and this
+            /// number cannot be 0.
             Unknown(NonZeroU32),
+            /// Nothing was judged: the linked `libthimbleford.a` has another
+            /// boundary than [`BOUNDARY_VERSION`](crate::BOUNDARY_VERSION).
+            OtherArchive {
+                /// The version of its boundary.
+                version: u32,
+            },
         }
 
         impl Refusal {
             /// Every refusal of the table, in the order of the numbers from 1.
             pub const ALL: &'static [Self] = &[$(Self::$refusal),*];
 
-            /// The number in the table. It is never 0.
+            /// The number in the table. It is never 0. Where no function of the
+            /// table was asked, as with another archive, it is 2^32 - 1.
             pub const fn number(self) -> u32 {
                 match self {
                     $(Self::$refusal => $number,)*
                     Self::Unknown(number) => number.get(),
+                    Self::OtherArchive { .. } => u32::MAX,
                 }
             }
 
@@ -52,6 +61,7 @@ macro_rules! refusals {
                 match self {
                     $(Self::$refusal => $name,)*
                     Self::Unknown(_) => "unknown",
+                    Self::OtherArchive { .. } => "other archive",
                 }
             }
 
@@ -61,6 +71,8 @@ macro_rules! refusals {
                     $(Self::$refusal => $sentence,)*
                     Self::Unknown(_) => "The order was refused for a reason that has no name here. \
                         Tell whoever runs the order page.",
+                    Self::OtherArchive { .. } => "No order can be judged: the order page was put \
+                        together from parts that do not belong together. Tell whoever runs it.",
                 }
             }
         }
@@ -159,7 +171,14 @@ impl Refusal {
 impl fmt::Display for Refusal {
     /// Number and name, for a log; [`Refusal::sentence`] is for people.
     fn fmt(&self, f: &mut fmt::Formatter<'_>) -> fmt::Result {
-        write!(f, "refused with {}, {}", self.number(), self.name())
+        match self {
+            Self::OtherArchive { version } => write!(
+                f,
+                "not judged: libthimbleford.a has version {version} of the boundary, and this \
+                 crate is made for version {BOUNDARY_VERSION}"
+            ),
+            _ => write!(f, "refused with {}, {}", self.number(), self.name()),
+        }
     }
 }
 

@@ -1,6 +1,6 @@
-//! src/boundary.rs declares the two C functions as the Rattle source does. The
-//! linker looks at names alone: with a parameter swapped or of another width the
-//! crate would build and judge other numbers.
+//! src/boundary.rs declares the C functions as the Rattle source does. The linker
+//! looks at names alone: with a parameter swapped or of another width the crate
+//! would build and judge other numbers.
 
 const RATTLE: &str = include_str!("../../../crates/thimbleford/src/lib.rt");
 const BOUNDARY: &str = include_str!("../src/boundary.rs");
@@ -70,9 +70,18 @@ fn the_boundary_is_declared_as_the_rattle_source_has_it() {
     assert_eq!(
         shape,
         [
+            ("thimbleford_version", 0, "u32"),
             ("thimbleford_create", 2, "u32"),
             ("thimbleford_judge", 2 * 5 + 4, "u32"),
         ]
+    );
+}
+
+#[test]
+fn the_linked_archive_has_the_boundary_of_this_crate() {
+    assert_eq!(
+        thimbleford::archive_version(),
+        thimbleford::BOUNDARY_VERSION
     );
 }
 
