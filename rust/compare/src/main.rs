@@ -23,7 +23,8 @@ use compare::{
     vectors::{self, answer, decode, KINDS},
     NOTHING_COMPARED,
 };
-use oracle::Oracle;
+use oracle::{Oracle, COMMIT};
+use thimbleford::archive_version;
 
 fn main() -> ExitCode {
     let task = match arguments::parse(env::args().skip(1)) {
@@ -68,6 +69,13 @@ fn without_sources(task: &Task) -> &'static str {
 }
 
 fn perform(oracle: Oracle, task: Task) -> Result<Outcome, Box<dyn Error>> {
+    if let Task::Run(_)
+    | Task::Replay { .. }
+    | Task::Record { check: true, .. }
+    | Task::Bench { .. } = task
+    {
+        say_what_is_compared();
+    }
     match task {
         Task::Run(comparison) => run(oracle, comparison),
         Task::Again { file } => again(oracle, &file),
@@ -113,6 +121,13 @@ fn perform(oracle: Oracle, task: Task) -> Result<Outcome, Box<dyn Error>> {
             Ok(Outcome::AsExpected)
         }
     }
+}
+
+/// The published files are those of the commit, or the oracle would not have
+/// been built.
+fn say_what_is_compared() {
+    println!("published: lazor-kit/program-v2 {COMMIT}, unchanged");
+    println!("archive: boundary version {}", archive_version());
 }
 
 /// Compares the archive, and the program `vectors` where it is named.

@@ -14,6 +14,15 @@ use compare::{
 };
 use oracle::Oracle;
 
+/// What a comparison says first.
+fn head() -> String {
+    let version = thimbleford::BOUNDARY_VERSION;
+    format!(
+        "published: lazor-kit/program-v2 6c727b9f05, unchanged\n\
+         archive: boundary version {version}\n"
+    )
+}
+
 fn compare() -> Command {
     let mut command = Command::new(env!("CARGO_BIN_EXE_compare"));
     command.env_remove("THIMBLEFORD_VECTORS");
@@ -98,6 +107,7 @@ fn too_few_cases_are_no_difference() {
     let said = output(&["run", "--cases", "1"]);
     assert_eq!(said.status.code(), Some(3));
     let text = String::from_utf8(said.stdout).unwrap();
+    assert!(text.starts_with(&head()), "{text}");
     assert!(text.contains("never reached: create, "), "{text}");
     let last = text.lines().last().unwrap();
     assert!(
@@ -115,6 +125,7 @@ fn a_difference_counts_more_than_too_few_cases() {
     let said = output(&["replay", "--runs", "0", "--program", wrong]);
     assert_eq!(said.status.code(), Some(1));
     let text = String::from_utf8(said.stdout).unwrap();
+    assert!(text.starts_with(&head()), "{text}");
     assert!(text.contains("never reached: "), "{text}");
     assert!(text.ends_with(" shown\n"), "{text}");
 }
@@ -141,7 +152,9 @@ fn the_sample_is_recorded_and_checked() {
     let out = dir.to_str().unwrap();
     assert_eq!(status(&["record", "--out", out, "--check"]), Some(1));
     assert_eq!(status(&["record", "--out", out]), Some(0));
-    assert_eq!(status(&["record", "--out", out, "--check"]), Some(0));
+    let said = output(&["record", "--out", out, "--check"]);
+    assert_eq!(said.status.code(), Some(0));
+    assert_eq!(String::from_utf8(said.stdout).unwrap(), head());
     fs::write(dir.join("stdout"), "0\n").unwrap();
     assert_eq!(status(&["record", "--out", out, "--check"]), Some(1));
     fs::remove_dir_all(dir).unwrap();
