@@ -21,7 +21,8 @@ compare run [--cases N] [--seed S] [--found FILE]
     Then M (3000) cases of every function go to the program `vectors` at PATH,
     else THIMBLEFORD_VECTORS names it.
     A drawn call with a record that only the published Rust takes for a token
-    account is left out; it says how many are, as `replay` does.
+    account is left out; it says how many are, as `replay` does. One call in some
+    thousands gets records of up to 10 MiB, the longest that an account can be.
     Exits with 1 where an answer differs, else with 3 where a number is never
     reached.
 

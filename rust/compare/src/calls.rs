@@ -5,6 +5,7 @@ use crate::{
     aim::Aim,
     chance::Chance,
     damage::damage,
+    long_records::LONG,
     region::{self, Action, Rule, MAX_ACTIONS},
     stream::{self, Entry, MAX_INSTRUCTIONS},
     table::{self, Record, MAX_RECORDS},
@@ -51,12 +52,24 @@ impl Call {
     /// How many records of its tables only the published code takes for token
     /// accounts. Where a table is malformed no record is looked at.
     pub fn only_published(&self) -> usize {
-        let tables = [&self.before, &self.after].map(|bytes| table::decode(bytes));
+        let tables = [&self.before, &self.after].map(|bytes| table::cut(bytes));
         let [Some(before), Some(after)] = tables else {
             return 0;
         };
         let records = before.iter().chain(&after);
-        records.filter(|r| table::is_only_published(r)).count()
+        records
+            .filter(|record| table::is_only_published(&record.owner, record.data))
+            .count()
+    }
+
+    /// The length of its longest record, where there is a [long](LONG) one in a
+    /// well-formed table.
+    pub fn long_record(&self) -> Option<usize> {
+        let tables = [&self.before, &self.after];
+        let longer = tables.into_iter().filter(|bytes| bytes.len() > LONG);
+        let records = longer.filter_map(|bytes| table::cut(bytes)).flatten();
+        let lengths = records.map(|record| record.data.len());
+        lengths.filter(|len| *len >= LONG).max()
     }
 
     /// The call as the C boundary takes it.

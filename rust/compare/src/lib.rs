@@ -18,6 +18,7 @@ pub mod calls;
 pub mod chance;
 pub mod creation;
 pub mod damage;
+pub mod long_records;
 pub mod numbers;
 pub mod program;
 pub mod progress;

@@ -3,7 +3,7 @@
 
 use std::{collections::BTreeMap, fmt};
 
-use crate::runs::Run;
+use crate::{long_records::LONG, runs::Run};
 
 /// So many differences are kept in full; the others are counted.
 const KEPT: usize = 5;
@@ -40,6 +40,14 @@ pub struct LeftOut {
     pub records: usize,
 }
 
+/// Calls with a [long](LONG) record that were compared.
+#[derive(Default)]
+struct Long {
+    calls: usize,
+    /// The length of the longest record.
+    longest: usize,
+}
+
 /// What came of a comparison. Of two the greater one counts: a difference more
 /// than an answer that was never reached.
 #[derive(Clone, Copy, Debug, PartialEq, Eq, PartialOrd, Ord)]
@@ -57,6 +65,7 @@ pub struct Report {
     domains: Vec<Domain>,
     answered: BTreeMap<(&'static str, &'static str), u64>,
     left_out: BTreeMap<&'static str, LeftOut>,
+    long: BTreeMap<&'static str, Long>,
     kept: Vec<Difference>,
     differences: u64,
     smallest: Option<Run>,
@@ -69,6 +78,7 @@ impl Report {
             domains,
             answered: BTreeMap::new(),
             left_out: BTreeMap::new(),
+            long: BTreeMap::new(),
             kept: Vec::new(),
             differences: 0,
             smallest: None,
@@ -90,6 +100,13 @@ impl Report {
     /// What was left out.
     pub fn left_out(&self, function: &'static str) -> LeftOut {
         self.left_out.get(function).copied().unwrap_or_default()
+    }
+
+    /// Counts a call with a long record, whose longest is this long.
+    pub fn count_long(&mut self, function: &'static str, longest: usize) {
+        let long = self.long.entry(function).or_default();
+        long.calls += 1;
+        long.longest = long.longest.max(longest);
     }
 
     /// Counts a difference, and keeps it if it is among the first.
@@ -153,6 +170,12 @@ impl fmt::Display for Report {
                 let times = self.answered(domain.function, answer);
                 writeln!(f, "  {times:>10}  {answer}")?;
             }
+            if let Some(Long { calls, longest }) = self.long.get(domain.function) {
+                writeln!(
+                    f,
+                    "  {calls:>10}  of these with a long record, of {LONG} to {longest} bytes"
+                )?;
+            }
             if let Some(LeftOut { calls, records }) = self.left_out.get(domain.function) {
                 writeln!(
                     f,
@@ -195,5 +218,24 @@ impl fmt::Display for Difference {
             writeln!(f, "  {name:<24}{value}")?;
         }
         Ok(())
+    }
+}
+
+#[cfg(test)]
+mod tests {
+    use super::*;
+
+    #[test]
+    fn long_records_are_told() {
+        let mut report = Report::new(vec![Domain {
+            function: "judge",
+            answers: vec![],
+        }]);
+        assert_eq!(report.to_string(), "judge\nno difference\n");
+        for longest in [70_000, 10_485_760, 65_535] {
+            report.count_long("judge", longest);
+        }
+        let line = "         3  of these with a long record, of 65535 to 10485760 bytes\n";
+        assert!(report.to_string().contains(line), "{report}");
     }
 }

@@ -5,9 +5,9 @@ use std::fmt;
 
 use crate::{
     bytes::hex,
-    calls,
+    calls::{self, Call},
     chance::Chance,
-    creation,
+    creation, long_records,
     numbers::{self, CREATION, JUDGING, RUNNING},
     progress::Progress,
     report::{Difference, Domain, Report},
@@ -108,21 +108,20 @@ pub fn compare(
         domain(RUN, &RUNNING),
     ]);
     let mut progress = Progress::start();
-    for (function, draw) in [
-        (CREATE, creation_run as fn(&mut Chance) -> Run),
-        (JUDGE, judged_run),
-        (RUN, runs::draw),
-    ] {
+    for function in [CREATE, JUDGE, RUN] {
         let mut done = 0;
         for case in 0.. {
             if done >= cases {
                 break;
             }
-            let run = draw(&mut Chance::of_case(seed, function, case));
+            let run = draw(function, seed, case);
             let only_published = run.only_published();
             if only_published > 0 {
                 report.leave_out(function, run.calls.len(), only_published);
                 continue;
+            }
+            for longest in run.calls.iter().filter_map(Call::long_record) {
+                report.count_long(function, longest);
             }
             let mut count = |number| report.count(function, numbers::name(number));
             let parting = parting(expected, subject, &run, &mut count);
@@ -142,19 +141,27 @@ pub fn compare(
     report
 }
 
-fn creation_run(chance: &mut Chance) -> Run {
-    Run {
-        region: creation::draw(chance),
-        calls: vec![],
+/// The case of a function and a number.
+pub fn draw(function: &str, seed: u64, case: u64) -> Run {
+    let mut chance = Chance::of_case(seed, function, case);
+    let mut run = match function {
+        CREATE => Run {
+            region: creation::draw(&mut chance),
+            calls: vec![],
+        },
+        JUDGE => {
+            let (region, call) = calls::draw(&mut chance);
+            Run {
+                region,
+                calls: vec![call],
+            }
+        }
+        _ => runs::draw(&mut chance),
+    };
+    for call in &mut run.calls {
+        long_records::sometimes(&mut chance, call);
     }
-}
-
-fn judged_run(chance: &mut Chance) -> Run {
-    let (region, call) = calls::draw(chance);
-    Run {
-        region,
-        calls: vec![call],
-    }
+    run
 }
 
 impl Parting {

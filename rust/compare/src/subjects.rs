@@ -89,8 +89,10 @@ impl Subject for Amended {
             let Some(mut records) = table::decode(bytes) else {
                 continue;
             };
-            for record in records.iter_mut().filter(|r| table::is_only_published(r)) {
-                record.owner = NO_TOKEN_PROGRAM;
+            for record in &mut records {
+                if table::is_only_published(&record.owner, &record.data) {
+                    record.owner = NO_TOKEN_PROGRAM;
+                }
             }
             *bytes = table::encode(&records);
         }

@@ -31,10 +31,26 @@ pub const TOKEN_2022: Key = [
     77, 149, 128, 12, 61, 73, 196, 253, 210, 164, 82, 159,
 ];
 
+/// The longest data of an account of the chain: 10 MiB.
+pub const LONGEST: usize = 10 << 20;
+
+/// A record where it lies in its table's bytes.
+#[derive(Clone, Copy, Debug)]
+pub struct Lent<'a> {
+    /// The account's key.
+    pub key: Key,
+    /// The key of the owning program.
+    pub owner: Key,
+    /// The account's data.
+    pub data: &'a [u8],
+}
+
 /// The table's bytes: its count, then key, owning program, data length and data
 /// of each record.
 pub fn encode(records: &[Record]) -> Vec<u8> {
-    let mut bytes = (records.len() as u16).to_le_bytes().to_vec();
+    let lengths = records.iter().map(|record| 68 + record.data.len());
+    let mut bytes = Vec::with_capacity(2 + lengths.sum::<usize>());
+    bytes.extend((records.len() as u16).to_le_bytes());
     for record in records {
         bytes.extend(record.key);
         bytes.extend(record.owner);
@@ -44,25 +60,35 @@ pub fn encode(records: &[Record]) -> Vec<u8> {
     bytes
 }
 
-/// The records of a well-formed table.
-pub fn decode(bytes: &[u8]) -> Option<Vec<Record>> {
+/// The records of a well-formed table, where they lie.
+pub fn cut(bytes: &[u8]) -> Option<Vec<Lent<'_>>> {
     let mut cursor = Cursor::new(bytes);
     let count = usize::from(u16::from_le_bytes(cursor.array()?));
     if count > MAX_RECORDS {
         return None;
     }
     let mut record = || {
-        Some(Record {
+        Some(Lent {
             key: cursor.array()?,
             owner: cursor.array()?,
             data: {
-                let len = u32::from_le_bytes(cursor.array()?);
-                cursor.take(len as usize)?.to_vec()
+                let len = cursor.length()?;
+                cursor.take(len)?
             },
         })
     };
     let records = (0..count).map(|_| record()).collect::<Option<_>>()?;
     cursor.is_done().then_some(records)
+}
+
+/// The records of a well-formed table.
+pub fn decode(bytes: &[u8]) -> Option<Vec<Record>> {
+    let owned = |Lent { key, owner, data }| Record {
+        key,
+        owner,
+        data: data.to_vec(),
+    };
+    Some(cut(bytes)?.into_iter().map(owned).collect())
 }
 
 /// What makes a record a token account, or not.
@@ -102,23 +128,24 @@ impl Layout {
     }
 }
 
-/// Whether a record is a token account by document 02's W-204.
-pub fn is_token_account(record: &Record) -> bool {
-    let len = record.data.len();
-    let says_so = || record.data.get(TOKEN_ACCOUNT) == Some(&ACCOUNT_TYPE);
-    match record.owner {
+/// Whether a record of this owner and data is a token account by document 02's
+/// W-204.
+pub fn is_token_account(owner: &Key, data: &[u8]) -> bool {
+    let len = data.len();
+    let says_so = || data.get(TOKEN_ACCOUNT) == Some(&ACCOUNT_TYPE);
+    match *owner {
         SPL_TOKEN => len == TOKEN_ACCOUNT,
         TOKEN_2022 => len == TOKEN_ACCOUNT || len != MULTISIG && says_so(),
         _ => false,
     }
 }
 
-/// Whether only the published code takes a record for a token account: it asks
-/// for one of the two programs and 165 bytes or more. No record is one by W-204
-/// alone.
-pub fn is_only_published(record: &Record) -> bool {
-    let token_program = [SPL_TOKEN, TOKEN_2022].contains(&record.owner);
-    token_program && record.data.len() >= TOKEN_ACCOUNT && !is_token_account(record)
+/// Whether only the published code takes a record of this owner and data for a
+/// token account: it asks for one of the two programs and 165 bytes or more. No
+/// record is one by W-204 alone.
+pub fn is_only_published(owner: &Key, data: &[u8]) -> bool {
+    let token_program = [SPL_TOKEN, TOKEN_2022].contains(owner);
+    token_program && data.len() >= TOKEN_ACCOUNT && !is_token_account(owner, data)
 }
 
 /// The mint and the amount of a counted token account.
@@ -126,7 +153,7 @@ pub fn is_only_published(record: &Record) -> bool {
 /// The generator aims with it and the runner's tests are made with it. No
 /// expected answer comes from it.
 pub fn counted(record: &Record, vault: &Key) -> Option<(Key, u64)> {
-    if !is_token_account(record) {
+    if !is_token_account(&record.owner, &record.data) {
         return None;
     }
     let mut cursor = Cursor::new(&record.data);

@@ -96,7 +96,7 @@ impl World {
         data.truncate(len);
         let mut record = Record { key, owner, data };
         mark(chance, &mut record);
-        if !self.strays && table::is_only_published(&record) {
+        if !self.strays && table::is_only_published(&record.owner, &record.data) {
             record.data.truncate(TOKEN_ACCOUNT);
         }
         record

@@ -1,17 +1,21 @@
 //! What the drawn cases reach.
 
+use std::ops::RangeInclusive;
+
 use compare::{
     breach::{Breach, BREACHES},
     calls::{self, Call},
     chance::Chance,
     creation,
+    long_records::{self, LONG},
     numbers::{self, CREATION, JUDGING, RUNNING},
     region,
     report::{LeftOut, Outcome},
     runner::{self, CREATE, JUDGE, RUN},
+    runs::Run,
     stream,
-    subjects::{Published, Subject},
-    table::{self, Record, TOKEN_ACCOUNT},
+    subjects::{Archive, Published, Subject},
+    table::{self, Record, LONGEST, TOKEN_ACCOUNT},
     vectors::{answer, draw, Kind, KINDS},
 };
 use oracle::Oracle;
@@ -59,7 +63,8 @@ fn longer_accounts_are_compared_and_some_calls_are_left_out() {
         compared += 1;
         let tables = [&call.before, &call.after].map(|bytes| table::decode(bytes));
         let mut records = tables.into_iter().flatten().flatten();
-        let is_longer = |r: Record| table::is_token_account(&r) && r.data.len() > TOKEN_ACCOUNT;
+        let is_longer =
+            |r: Record| table::is_token_account(&r.owner, &r.data) && r.data.len() > TOKEN_ACCOUNT;
         longer += u64::from(records.any(is_longer));
     }
     assert!(
@@ -81,6 +86,62 @@ fn what_is_left_out_is_counted() {
         assert!(report.to_string().contains(&line), "{report}");
     }
     assert_eq!(report.left_out(CREATE), LeftOut::default());
+}
+
+/// The runner lengthens records of one call in some thousands.
+#[test]
+fn calls_with_long_records_are_drawn() {
+    for function in [JUDGE, RUN] {
+        let is_long = |run: &Run| run.calls.iter().any(|call| call.long_record().is_some());
+        let mut drawn = (0..20_000).map(|case| runner::draw(function, 1, case));
+        assert!(drawn.any(|run| is_long(&run)), "{function}");
+    }
+}
+
+/// Of every length and in both tables, as token accounts and as records that
+/// belong to no token program.
+#[test]
+#[cfg_attr(not(oracle_sources), ignore)]
+fn both_sides_agree_on_long_records() {
+    let mut right = published();
+    let (mut numbers, mut long) = (Vec::new(), Vec::new());
+    for case in 0..80 {
+        let mut chance = Chance::of_case(1, JUDGE, case);
+        let (region, mut call) = calls::draw(&mut chance);
+        long_records::lengthen(&mut chance, &mut call);
+        if call.only_published() > 0 || call.long_record().is_none() {
+            continue;
+        }
+        for (table, bytes) in [("before", &call.before), ("after", &call.after)] {
+            let records = table::cut(bytes).unwrap().into_iter();
+            for record in records.filter(|record| record.data.len() >= LONG) {
+                let is_account = table::is_token_account(&record.owner, record.data);
+                long.push((table, is_account, record.data.len()));
+            }
+        }
+        let run = Run {
+            region,
+            calls: vec![call],
+        };
+        let mut count = |number| numbers.push(number);
+        let parting = runner::parting(&mut right, &mut Archive, &run, &mut count);
+        assert!(parting.is_none(), "case {case}");
+    }
+    let accepted = numbers.iter().filter(|number| **number == 0).count();
+    assert!(accepted > 10 && numbers.contains(&12), "{numbers:?}");
+    for table in ["before", "after"] {
+        let there = |is_account, lengths: RangeInclusive<usize>| {
+            let record = |r: &(&str, bool, usize)| {
+                (r.0, r.1) == (table, is_account) && lengths.contains(&r.2)
+            };
+            assert!(long.iter().any(record), "{table} {lengths:?}: {long:?}");
+        };
+        there(true, LONGEST..=LONGEST);
+        for is_account in [false, true] {
+            there(is_account, LONG..=LONG + 1);
+            there(is_account, (1 << 20) + 2..=LONGEST);
+        }
+    }
 }
 
 #[test]

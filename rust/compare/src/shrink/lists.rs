@@ -1,16 +1,25 @@
 //! Shorter lists.
 
+use std::ops::Range;
+
 /// The list without each half of it, each quarter, and so on down to each item.
 pub fn shorter<T: Clone>(list: &[T]) -> impl Iterator<Item = Vec<T>> + '_ {
+    ranges(list.len()).map(|range| without(list, range))
+}
+
+/// Each half of a list of so many items, each quarter, and so on.
+pub fn ranges(len: usize) -> impl Iterator<Item = Range<usize>> {
     let halves = |size: &usize| (*size > 1).then(|| size.div_ceil(2));
-    let sizes = std::iter::successors(Some(list.len()), halves);
+    let sizes = std::iter::successors(Some(len), halves);
     sizes.filter(|size| *size > 0).flat_map(move |size| {
-        let starts = (0..list.len()).step_by(size);
-        starts.map(move |start| {
-            let end = (start + size).min(list.len());
-            [&list[..start], &list[end..]].concat()
-        })
+        let starts = (0..len).step_by(size);
+        starts.map(move |start| start..(start + size).min(len))
     })
+}
+
+/// The list without some of its items.
+pub fn without<T: Clone>(list: &[T], items: Range<usize>) -> Vec<T> {
+    [&list[..items.start], &list[items.end..]].concat()
 }
 
 /// Bytes of which nothing is known: shorter, or with a zero in place of a byte.

@@ -1,5 +1,6 @@
 //! The smallest run on which something still holds, such as a difference.
 
+mod lengths;
 mod lists;
 mod numbers;
 mod parts;
@@ -23,12 +24,19 @@ fn smaller(run: &Run) -> Box<dyn Iterator<Item = Run> + '_> {
         region,
         calls: run.calls.clone(),
     });
-    let calls = (0..run.calls.len()).flat_map(move |at| {
-        parts::calls(&run.calls[at]).map(move |call| {
+    let all = 0..run.calls.len();
+    let with = move |at: usize| {
+        move |call| {
             let mut run = run.clone();
             run.calls[at] = call;
             run
-        })
-    });
-    Box::new(regions.chain(calls).chain(numbers::lowered(run)))
+        }
+    };
+    let lengths = all
+        .clone()
+        .flat_map(move |at| lengths::shortened(&run.calls[at]).map(with(at)));
+    let calls = all.flat_map(move |at| parts::calls(&run.calls[at]).map(with(at)));
+    // Long data comes first: every other step copies it.
+    let parts = lengths.chain(regions).chain(calls);
+    Box::new(parts.chain(numbers::lowered(run)))
 }

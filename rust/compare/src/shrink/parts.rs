@@ -1,6 +1,8 @@
 //! Smaller regions and calls, by what they are made of where that is known.
 
-use super::lists::{plainer, shorter};
+use std::{iter, rc::Rc};
+
+use super::lists::{plainer, ranges, shorter, without};
 use crate::{
     calls::Call,
     region,
@@ -31,78 +33,91 @@ pub fn calls(call: &Call) -> impl Iterator<Item = Call> + '_ {
         instructions,
         ..call.clone()
     });
-    let together = together(call);
-    together
-        .into_iter()
+    together(call)
         .chain(before)
         .chain(after)
         .chain(instructions)
 }
 
 /// What has to change in both tables, or in a table and the instructions.
-fn together(call: &Call) -> Vec<Call> {
+fn together(call: &Call) -> impl Iterator<Item = Call> + '_ {
+    let accounts = table::cut(&call.before).map_or(0, |records| records.len());
+    let fewer = (0..accounts).flat_map(|at| without_account(call, at));
+    fewer.chain(iter::once_with(|| plainest(call)).flatten())
+}
+
+/// An account less, and the programs found at their new places: in the table
+/// before alone, and in both.
+fn without_account(call: &Call, at: usize) -> Vec<Call> {
     let tables = (table::decode(&call.before), table::decode(&call.after));
-    let (Some(before), Some(after)) = tables else {
+    let (Some(mut before), Some(mut after)) = tables else {
         return vec![];
     };
-    let with = |before: &[Record], after: &[Record]| Call {
-        before: table::encode(before),
-        after: table::encode(after),
+    let key = before.remove(at).key;
+    let mut fewer = Call {
+        before: table::encode(&before),
         ..call.clone()
     };
-    let mut calls = Vec::new();
-    // An account less, and the programs found at their new places.
-    for at in 0..before.len() {
-        let mut fewer = before.clone();
-        let key = fewer.remove(at).key;
-        let others: Vec<Record> = after.iter().filter(|r| r.key != key).cloned().collect();
-        let mut calls_of = |after: &[Record]| {
-            let mut call = with(&fewer, after);
-            if let Some(mut entries) = stream::decode(&call.instructions) {
-                for entry in entries.iter_mut().filter(|e| usize::from(e.program) > at) {
-                    entry.program -= 1;
-                }
-                call.instructions = stream::encode(&entries);
-            }
-            calls.push(call);
-        };
-        calls_of(&others);
-        calls_of(&after);
+    if let Some(mut entries) = stream::decode(&call.instructions) {
+        for entry in entries.iter_mut().filter(|e| usize::from(e.program) > at) {
+            entry.program -= 1;
+        }
+        fewer.instructions = stream::encode(&entries);
     }
-    // Accounts without what lies behind their amounts.
-    let plain = |records: &[Record]| -> Vec<Record> {
-        let mut records = records.to_vec();
+    after.retain(|record| record.key != key);
+    let in_both = Call {
+        after: table::encode(&after),
+        ..fewer.clone()
+    };
+    vec![in_both, fewer]
+}
+
+/// Accounts without what lies behind their amounts, if there is something.
+fn plainest(call: &Call) -> Option<Call> {
+    let plain = |bytes: &[u8]| {
+        let mut records = table::decode(bytes)?;
         for record in &mut records {
             record.data.truncate(TOKEN_ACCOUNT);
             if let Some(rest) = record.data.get_mut(AMOUNT + 8..) {
                 rest.fill(0);
             }
         }
-        records
+        Some(table::encode(&records))
     };
-    let plainest = with(&plain(&before), &plain(&after));
-    if plainest != *call {
-        calls.push(plainest);
-    }
-    calls
+    let plainest = Call {
+        before: plain(&call.before)?,
+        after: plain(&call.after)?,
+        ..call.clone()
+    };
+    (plainest != *call).then_some(plainest)
 }
 
-/// Tables of fewer records, or with one whose data is shorter.
+/// Tables of fewer records, or with one whose data is shorter. Each is made when
+/// it is asked for: the records may be long.
 fn tables(bytes: &[u8]) -> Box<dyn Iterator<Item = Vec<u8>> + '_> {
     let Some(records) = table::decode(bytes) else {
         return Box::new(plainer(bytes));
     };
-    let mut tables: Vec<Vec<u8>> = shorter(&records).map(|r| table::encode(&r)).collect();
-    for at in 0..records.len() {
-        for len in [0, TOKEN_ACCOUNT] {
-            if len < records[at].data.len() {
-                let mut records = records.clone();
-                records[at].data.truncate(len);
-                tables.push(table::encode(&records));
-            }
-        }
+    let mut places = Vec::new();
+    for (at, record) in records.iter().enumerate() {
+        let shorter = [0, TOKEN_ACCOUNT].into_iter();
+        let shorter = shorter.filter(|len| *len < record.data.len());
+        places.extend(shorter.map(|len| (at, len)));
     }
-    Box::new(tables.into_iter())
+    let records = Rc::new(records);
+    let all = Rc::clone(&records);
+    let fewer = ranges(all.len()).map(move |range| table::encode(&without(&all, range)));
+    let shorter = places
+        .into_iter()
+        .map(move |(at, len)| with_data_of(&records, at, len));
+    Box::new(fewer.chain(shorter))
+}
+
+/// The table with so much of a record's data.
+pub fn with_data_of(records: &[Record], at: usize, len: usize) -> Vec<u8> {
+    let mut records = records.to_vec();
+    records[at].data.truncate(len);
+    table::encode(&records)
 }
 
 /// Streams of fewer instructions, or with one that has less.
