@@ -16,8 +16,10 @@ compare run [--cases N] [--seed S] [--found FILE]
             [--vectors PATH] [--vectors-cases M]
     Draws N (10000) creations, as many judged calls, and runs of up to 200 calls
     on one region with as many calls together, from the seed S (1), and compares
-    the archive's answers and the regions afterwards. On a difference the
-    smallest case that is found is written to FILE (target/difference.run).
+    the archive's answers and the regions afterwards. A difference is shown as
+    what differs: a case is drawn again from its seed and number, and the smallest
+    one that is found is written to FILE (target/difference.run). Bytes, actions,
+    characters and fields are counted from 0, and lines from 1.
     Then M (3000) cases of every function go to the program `vectors` at PATH,
     else THIMBLEFORD_VECTORS names it.
     A drawn call with a record that only the published Rust takes for a token

@@ -18,6 +18,8 @@ pub mod calls;
 pub mod chance;
 pub mod creation;
 pub mod damage;
+pub mod fields;
+pub mod lines;
 pub mod long_records;
 pub mod numbers;
 pub mod program;
@@ -33,6 +35,7 @@ pub mod stream;
 pub mod subjects;
 pub mod table;
 pub mod vectors;
+pub mod words;
 pub mod world;
 
 /// A key of 32 bytes.

@@ -37,6 +37,8 @@ pub const RUNNING: [u32; 11] = [0, 3, 4, 5, 6, 7, 8, 9, 10, 11, 12];
 /// tables may be anything.
 pub const REPLAYING: [u32; 12] = [0, 3, 4, 5, 6, 7, 8, 9, 10, 11, 12, BAD_TABLE];
 
+const NAMELESS: &str = "a number without a name";
+
 /// Each number and its name.
 const NAMES: [(u32, &str); 17] = [
     (0, "0 accepted"),
@@ -61,7 +63,15 @@ const NAMES: [(u32, &str); 17] = [
 /// A number with its name.
 pub fn name(number: u32) -> &'static str {
     let known = NAMES.iter().find(|(known, _)| *known == number);
-    known.map_or("a number without a name", |(_, name)| name)
+    known.map_or(NAMELESS, |(_, name)| name)
+}
+
+/// A number with its name, or with the word that it has none.
+pub fn named(number: u32) -> String {
+    match name(number) {
+        NAMELESS => format!("{number}, {NAMELESS}"),
+        name => name.to_string(),
+    }
 }
 
 /// Numbers with their names.

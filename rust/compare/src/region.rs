@@ -1,5 +1,7 @@
 //! Action regions: typed actions and document 01's bytes of them.
 
+use std::iter;
+
 use crate::{bytes::Cursor, Key};
 
 /// The most actions that a region may have.
@@ -54,6 +56,27 @@ impl Rule {
             Self::TokenMaxPerTx(..) => 6,
             Self::ProgramWhitelist(_) => 10,
             Self::ProgramBlacklist(_) => 11,
+        }
+    }
+
+    /// The type's name, and the names and lengths of the data's fields.
+    pub fn layout(&self) -> (&'static str, &'static [(&'static str, usize)]) {
+        const RECURRING: [(&str, usize); 5] = [
+            ("mint", 32),
+            ("limit", 8),
+            ("spent", 8),
+            ("window", 8),
+            ("last_reset", 8),
+        ];
+        match self {
+            Self::SolLimit(_) => ("SolLimit", &[("remaining", 8)]),
+            Self::SolRecurringLimit(_) => ("SolRecurringLimit", &RECURRING[1..]),
+            Self::SolMaxPerTx(_) => ("SolMaxPerTx", &[("max", 8)]),
+            Self::TokenLimit(..) => ("TokenLimit", &[("mint", 32), ("remaining", 8)]),
+            Self::TokenRecurringLimit(..) => ("TokenRecurringLimit", &RECURRING),
+            Self::TokenMaxPerTx(..) => ("TokenMaxPerTx", &[("mint", 32), ("max", 8)]),
+            Self::ProgramWhitelist(_) => ("ProgramWhitelist", &[("program", 32)]),
+            Self::ProgramBlacklist(_) => ("ProgramBlacklist", &[("program", 32)]),
         }
     }
 
@@ -148,13 +171,25 @@ pub fn cut(bytes: &[u8]) -> Option<Vec<Action>> {
     let mut cursor = Cursor::new(bytes);
     let mut actions = Vec::new();
     while !cursor.is_done() {
-        let [code] = cursor.array()?;
-        let len = u16::from_le_bytes(cursor.array()?);
-        let expires_at = cursor.u64()?;
-        let rule = Rule::parse(code, cursor.take(len.into())?)?;
-        actions.push(Action { expires_at, rule });
+        actions.push(next(&mut cursor)?);
     }
     Some(actions)
+}
+
+/// The actions from a region's start on, as far as it is cut into such.
+pub fn leading(bytes: &[u8]) -> Vec<Action> {
+    let mut cursor = Cursor::new(bytes);
+    iter::from_fn(|| next(&mut cursor)).collect()
+}
+
+/// The action that comes next, if there is one of a known type and its listed
+/// length.
+fn next(cursor: &mut Cursor) -> Option<Action> {
+    let [code] = cursor.array()?;
+    let len = u16::from_le_bytes(cursor.array()?);
+    let expires_at = cursor.u64()?;
+    let rule = Rule::parse(code, cursor.take(len.into())?)?;
+    Some(Action { expires_at, rule })
 }
 
 #[cfg(test)]
@@ -192,6 +227,13 @@ mod tests {
         let bytes = encode(&actions);
         // The listed data lengths, each behind a header of 11 bytes.
         assert_eq!(bytes.len(), 8 + 32 + 8 + 40 + 64 + 40 + 32 + 32 + 8 * 11);
+        for action in &actions {
+            let (_, fields) = action.rule.layout();
+            let len: usize = fields.iter().map(|(_, len)| len).sum();
+            assert_eq!(len, action.rule.data().len());
+        }
+        assert_eq!(leading(&bytes), actions);
+        assert_eq!(leading(&bytes[..bytes.len() - 1]), actions[..7]);
         assert_eq!(cut(&bytes), Some(actions));
         assert_eq!(cut(&[]), Some(vec![]));
     }

@@ -26,7 +26,7 @@ pub struct Difference {
     pub seed: u64,
     /// The number of the case.
     pub case: u64,
-    /// The inputs and both answers, each with its name.
+    /// What was asked and where the answers part, each with its name.
     pub parts: Vec<(&'static str, String)>,
 }
 
@@ -199,7 +199,10 @@ impl fmt::Display for Report {
             ),
             Outcome::Differs => {
                 let (all, shown) = (self.differences, self.kept.len());
-                writeln!(f, "{all} differences, {shown} shown")
+                writeln!(
+                    f,
+                    "{all} differences, {shown} shown; a case is drawn again from its seed and number"
+                )
             }
         }
     }

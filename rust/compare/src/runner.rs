@@ -1,13 +1,12 @@
 //! The runner: draws runs and compares two subjects on them, each answer and
 //! every byte of each region afterwards, of refused calls too.
 
-use std::fmt;
+use std::{fmt, iter};
 
 use crate::{
-    bytes::hex,
     calls::{self, Call},
     chance::Chance,
-    creation, long_records,
+    creation, fields, long_records,
     numbers::{self, CREATION, JUDGING, RUNNING},
     progress::Progress,
     report::{Difference, Domain, Report},
@@ -24,6 +23,9 @@ pub const JUDGE: &str = "judge";
 
 /// The name of the calls of runs in a report.
 pub const RUN: &str = "run";
+
+/// So many fields of a region that differ are shown; the others are counted.
+const FIELDS: usize = 5;
 
 /// Where two subjects part.
 #[derive(Clone, Debug, PartialEq, Eq)]
@@ -165,19 +167,21 @@ pub fn draw(function: &str, seed: u64, case: u64) -> Run {
 }
 
 impl Parting {
-    /// What was asked and what came of it, each part with its name.
+    /// What was asked, both answers, and where the regions afterwards differ.
     fn parts(&self) -> Vec<(&'static str, String)> {
-        let [expected, got] = self.numbers;
-        let mut parts = vec![("region", hex(&self.at.region))];
-        for call in &self.at.calls {
-            parts.extend(runs::fields(call));
-        }
-        parts.push(("expected", numbers::name(expected).to_string()));
-        parts.push(("got", got.to_string()));
-        if !self.at.calls.is_empty() {
-            parts.push(("region after, expected", hex(&self.regions[0])));
-            parts.push(("region after, got", hex(&self.regions[1])));
-        }
+        let [expected, got] = self.numbers.map(numbers::named);
+        let mut parts = vec![
+            ("asked", self.at.summary()),
+            ("expected", expected),
+            ("got", got),
+        ];
+        let [expected, got] = &self.regions;
+        let differing = fields::differing(&self.at.region, expected, got);
+        let labels = iter::once("region afterwards").chain(iter::repeat(""));
+        let more = differing.len().saturating_sub(FIELDS);
+        let rest = (more > 0).then(|| format!("and {more} more"));
+        let lines = differing.into_iter().take(FIELDS).chain(rest);
+        parts.extend(labels.zip(lines));
         parts
     }
 }

@@ -9,6 +9,7 @@ use crate::{
     stream::{self, Entry, MAX_INSTRUCTIONS},
     subjects::{Published, Subject},
     table::{self, Record, AMOUNT, SPL_TOKEN, TOKEN_ACCOUNT},
+    words::many,
     Key,
 };
 
@@ -69,10 +70,6 @@ pub fn growth(seed: u64) -> Vec<Mix> {
     let mints = [4, 6, 12].map(|mints| (64, 12, mints));
     let mix = |(records, limits, mints): (usize, usize, usize)| {
         let mints = mints.min(limits);
-        let many = |count: usize, what: &str| match count {
-            1 => format!("1 {what}"),
-            _ => format!("{count} {what}s"),
-        };
         Mix {
             name: format!(
                 "{}, {}, {}",

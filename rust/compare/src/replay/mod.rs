@@ -13,13 +13,14 @@ mod reading;
 use std::{fs, io, path::Path};
 
 use crate::{
-    bytes::hex,
     calls::Call,
     chance::Chance,
+    lines,
     numbers::{self, CREATION, REPLAYING},
     progress::Progress,
     report::{Difference, Domain, Report},
     subjects::Subject,
+    words::many,
 };
 
 pub use draw::draw;
@@ -84,16 +85,15 @@ pub fn compare(
         let expected = reading.to_string();
         let got = program(input.clone())?;
         if got != expected {
-            report.differ(|| Difference {
-                function: REPLAY,
-                seed,
-                case,
-                parts: vec![
-                    ("run", name),
-                    ("input", hex(&input)),
-                    ("expected", expected),
-                    ("got", got),
-                ],
+            report.differ(|| {
+                let mut parts = vec![("run", name), ("input", many(input.len(), "byte"))];
+                parts.extend(lines::first_differing(&expected, &got));
+                Difference {
+                    function: REPLAY,
+                    seed,
+                    case,
+                    parts,
+                }
             });
         }
     }

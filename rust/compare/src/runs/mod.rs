@@ -1,12 +1,12 @@
 //! Runs: a region and the calls on it.
 
 mod draw;
+mod summary;
 mod text;
 
 use crate::calls::Call;
 
 pub use draw::{draw, MAX_CALLS};
-pub use text::fields;
 
 /// A region and calls that are judged on it in turn. Without calls it stands
 /// for the region's creation.

@@ -22,7 +22,7 @@ impl fmt::Display for Run {
 }
 
 /// What a call is given, each part with its name.
-pub fn fields(call: &Call) -> [(&'static str, String); 8] {
+fn fields(call: &Call) -> [(&'static str, String); 8] {
     [
         ("before", hex(&call.before)),
         ("after", hex(&call.after)),

@@ -6,11 +6,11 @@ use oracle::Oracle;
 
 use super::{answer, draw, encode, judging, Case, Kind};
 use crate::{
-    bytes::hex,
     chance::Chance,
-    program,
+    lines, program,
     progress::Progress,
     report::{Difference, Report},
+    words::many,
 };
 
 /// Cases of so many bytes go to one start of the program.
@@ -47,31 +47,31 @@ pub fn compare(
         if cases.is_empty() {
             return Ok(report);
         }
-        let mut lines = ask(program, &cases)?.into_iter();
+        let mut answers = ask(program, &cases)?.into_iter();
         for (number, case) in numbers.into_iter().zip(&cases) {
             progress.at(case.kind.name(), number, all);
             let expected = answer(oracle, case).expect("drawn payloads are long enough");
             report.count(case.kind.name(), expected.sort);
-            let got = lines.next().unwrap_or("no line".to_string());
+            let got = answers.next().unwrap_or("no line".to_string());
             if got != expected.line {
-                report.differ(|| Difference {
-                    function: case.kind.name(),
-                    seed,
-                    case: number,
-                    parts: vec![
-                        ("payload", hex(&case.payload)),
-                        ("expected", expected.line),
-                        ("got", got),
-                    ],
+                report.differ(|| {
+                    let mut parts = vec![("payload", many(case.payload.len(), "byte"))];
+                    parts.extend(lines::parting(&expected.line, &got));
+                    Difference {
+                        function: case.kind.name(),
+                        seed,
+                        case: number,
+                        parts,
+                    }
                 });
             }
         }
-        if let Some(surplus) = lines.next() {
+        if let Some(surplus) = answers.next() {
             report.differ(|| Difference {
                 function: "a line more than cases",
                 seed,
                 case: cases.len() as u64,
-                parts: vec![("got", surplus)],
+                parts: vec![("got", lines::around(&surplus, 0))],
             });
         }
     }

@@ -148,3 +148,16 @@ fn each_fault_is_found_by_a_named_run() {
         assert!(text.contains("difference: replay, seed 1, case "), "{text}");
     }
 }
+
+/// Not the whole input and both texts, which may be long.
+#[test]
+fn the_first_line_that_differs_is_shown() {
+    let text = report(Some(Fault::RefusedCallsCounted), 0).to_string();
+    let shown = "  run                     sol-limit
+  input                   264 bytes
+  line                    5
+  expected                \"end 2\\n\"
+  got                     \"end 3\\n\"
+";
+    assert!(text.contains(shown), "{text}");
+}
