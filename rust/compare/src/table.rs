@@ -62,33 +62,37 @@ pub fn encode(records: &[Record]) -> Vec<u8> {
 
 /// The records of a well-formed table, where they lie.
 pub fn cut(bytes: &[u8]) -> Option<Vec<Lent<'_>>> {
+    records(bytes, |lent| lent)
+}
+
+/// The records of a well-formed table.
+pub fn decode(bytes: &[u8]) -> Option<Vec<Record>> {
+    records(bytes, |Lent { key, owner, data }| Record {
+        key,
+        owner,
+        data: data.to_vec(),
+    })
+}
+
+/// What is made of each record of a well-formed table.
+fn records<'a, T>(bytes: &'a [u8], make: impl Fn(Lent<'a>) -> T) -> Option<Vec<T>> {
     let mut cursor = Cursor::new(bytes);
     let count = usize::from(u16::from_le_bytes(cursor.array()?));
     if count > MAX_RECORDS {
         return None;
     }
     let mut record = || {
-        Some(Lent {
+        Some(make(Lent {
             key: cursor.array()?,
             owner: cursor.array()?,
             data: {
                 let len = cursor.length()?;
                 cursor.take(len)?
             },
-        })
+        }))
     };
     let records = (0..count).map(|_| record()).collect::<Option<_>>()?;
     cursor.is_done().then_some(records)
-}
-
-/// The records of a well-formed table.
-pub fn decode(bytes: &[u8]) -> Option<Vec<Record>> {
-    let owned = |Lent { key, owner, data }| Record {
-        key,
-        owner,
-        data: data.to_vec(),
-    };
-    Some(cut(bytes)?.into_iter().map(owned).collect())
 }
 
 /// What makes a record a token account, or not.
