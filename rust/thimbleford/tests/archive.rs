@@ -409,6 +409,28 @@ fn other_boundary(version: u32) -> String {
     )
 }
 
+/// A program that creates, makes a policy and judges, and prints each refusal.
+const ASKING: &str = r#"
+use thimbleford::{create, judge, region::{Action, Rule, NEVER}, Call, Policy};
+
+fn main() {
+    println!("{}", create(&[]).unwrap_err());
+    let limit = Action { expires_at: NEVER, rule: Rule::SolLimit { remaining: 1 } };
+    println!("{}", Policy::create(&[limit]).unwrap_err().refusal());
+    let call = Call {
+        before: &[0, 0],
+        after: &[0, 0],
+        instructions: &[0],
+        vault: &[7; 32],
+        slot: 1,
+        lamports_before: 0,
+        lamports_after: 0,
+        gross: 0,
+    };
+    println!("{}", judge(&mut [], &call).unwrap_err());
+}
+"#;
+
 #[test]
 fn an_archive_of_another_boundary_is_called_for_its_version_alone() {
     let world = empty("boundary");
@@ -422,8 +444,7 @@ fn an_archive_of_another_boundary_is_called_for_its_version_alone() {
          workspace = {{}}\n"
     );
     fs::write(program.join("Cargo.toml"), manifest).unwrap();
-    let main = "fn main() { println!(\"{}\", thimbleford::create(&[]).unwrap_err()); }";
-    fs::write(program.join("src/main.rs"), main).unwrap();
+    fs::write(program.join("src/main.rs"), ASKING).unwrap();
     let mut cargo = cargo(&["run"], &program, &world);
     cargo.env("THIMBLEFORD_ARCHIVE", &named);
 
@@ -439,5 +460,6 @@ fn an_archive_of_another_boundary_is_called_for_its_version_alone() {
     passes(rustc.arg(&object).arg(&source));
     put(&named, &archive_of(&fs::read(object).unwrap()));
     let (out, _) = passes(&mut cargo);
-    assert_eq!(out, format!("{}\n", Refusal::OtherArchive { version }));
+    let refused = format!("{}\n", Refusal::OtherArchive { version });
+    assert_eq!(out, refused.repeat(3));
 }
