@@ -9,22 +9,18 @@ use std::{
 };
 
 use thimbleford::{
-    create,
     instructions::{self, CompactInstruction},
-    judge,
-    region::{self, Action, Recurring, Rule},
-    table::{self, Record},
-    Call, Key,
+    region::{Action, Recurring, RegionError, Rule},
+    table::{self, Record, TableError},
+    Call, Key, Policy, SPL_TOKEN,
 };
 
-const VAULT: Key = [7; 32];
-const LUNCH_TOKEN: Key = [9; 32];
-const SCHOOL_SHOP: Key = [20; 32];
-const GAME_SHOP: Key = [21; 32];
-const SPL_TOKEN: Key = [
-    6, 221, 246, 225, 215, 101, 161, 147, 217, 203, 225, 70, 206, 235, 121, 172, 28, 180, 133, 237,
-    95, 91, 55, 145, 58, 140, 245, 133, 126, 255, 0, 169,
-];
+const VAULT: Key = Key([7; 32]);
+const LUNCH_TOKEN: Key = Key([9; 32]);
+const SCHOOL_SHOP: Key = Key([20; 32]);
+const GAME_SHOP: Key = Key([21; 32]);
+/// The owner of programs, as far as this morning looks.
+const LOADER: Key = Key([0; 32]);
 
 /// The slot after which the policy expires.
 const END_OF_TERM: u64 = 5_000;
@@ -73,7 +69,6 @@ fn main() -> Result<(), Box<dyn Error>> {
 /// Judges the morning's orders and writes down each answer.
 fn morning(out: &mut dyn Write) -> Result<(), Box<dyn Error>> {
     let mut policy = policy()?;
-    create(&policy)?;
 
     let (mut lamports, mut tokens) = (100_000, 500);
     for order in MORNING {
@@ -93,13 +88,13 @@ fn morning(out: &mut dyn Write) -> Result<(), Box<dyn Error>> {
             before: &before,
             after: &after,
             instructions: &instructions::build(&[buy], 3)?,
-            vault: &VAULT,
+            vault: &VAULT.0,
             slot: order.slot,
             lamports_before: lamports,
             lamports_after: lamports - order.lamports,
             gross: order.lamports,
         };
-        match judge(&mut policy, &call) {
+        match policy.judge(&call) {
             Ok(()) => {
                 // Here the co-signer stores the policy, then signs.
                 lamports -= order.lamports;
@@ -111,7 +106,7 @@ fn morning(out: &mut dyn Write) -> Result<(), Box<dyn Error>> {
     }
 
     writeln!(out, "At slot 201:")?;
-    for action in region::read(&policy)? {
+    for action in policy.actions() {
         if let Some(remaining) = action.remaining(201) {
             writeln!(out, "- {}: up to {remaining}", action.rule.name())?;
         }
@@ -120,7 +115,7 @@ fn morning(out: &mut dyn Write) -> Result<(), Box<dyn Error>> {
 }
 
 /// What the tablet may spend until the end of term.
-fn policy() -> Result<Vec<u8>, region::RegionError> {
+fn policy() -> Result<Policy, RegionError> {
     let mint = LUNCH_TOKEN;
     let rules = [
         Rule::SolMaxPerTx { max: 2_000 },
@@ -134,22 +129,22 @@ fn policy() -> Result<Vec<u8>, region::RegionError> {
             program_id: SCHOOL_SHOP,
         },
     ];
-    region::build(&rules.map(|rule| Action {
+    Policy::create(&rules.map(|rule| Action {
         expires_at: END_OF_TERM,
         rule,
     }))
 }
 
 /// The account table: the vault's lunch tokens and the two shops.
-fn accounts(owner: &Key, tokens: u64) -> Result<Vec<u8>, table::TableError> {
+fn accounts(owner: &Key, tokens: u64) -> Result<Vec<u8>, TableError> {
     // On a chain these are the account's bytes: mint, owner, amount and more.
-    let mut data = [&LUNCH_TOKEN[..], owner, &tokens.to_le_bytes()].concat();
+    let mut data = [&LUNCH_TOKEN.0[..], &owner.0, &tokens.to_le_bytes()].concat();
     data.resize(165, 0);
     let record = |key, owner, data| Record { key, owner, data };
     table::build(&[
-        record([1; 32], SPL_TOKEN, &data),
-        record(SCHOOL_SHOP, [0; 32], &[]),
-        record(GAME_SHOP, [0; 32], &[]),
+        record(Key([1; 32]), SPL_TOKEN, &data),
+        record(SCHOOL_SHOP, LOADER, &[]),
+        record(GAME_SHOP, LOADER, &[]),
     ])
 }
 

@@ -1,5 +1,7 @@
 //! One typed action and its bytes.
 
+use alloc::vec::Vec;
+
 use crate::{bytes::Cursor, Key};
 
 /// An [`Action::expires_at`] that never comes.
@@ -20,6 +22,7 @@ pub struct Action {
 /// What an action says, by the published names. Amounts are lamports, or a
 /// token's smallest units.
 #[derive(Clone, Copy, Debug, PartialEq, Eq)]
+#[non_exhaustive]
 pub enum Rule {
     /// So much SOL in all.
     SolLimit {
@@ -81,6 +84,7 @@ pub struct Recurring {
 
 impl Recurring {
     /// A limit as creation wants it: nothing spent, no window begun.
+    #[must_use]
     pub const fn fresh(limit: u64, window: u64) -> Self {
         Self {
             limit,
@@ -93,6 +97,7 @@ impl Recurring {
     /// The most that may still be spent at a slot.
     ///
     /// A limit of 2^64 - 1 never refuses, since what is spent is capped there.
+    #[must_use]
     pub const fn remaining(&self, slot: u64) -> u64 {
         let window_is_over = slot.saturating_sub(self.last_reset) > self.window;
         if window_is_over || self.limit == u64::MAX {
@@ -119,6 +124,7 @@ impl Recurring {
 
 impl Rule {
     /// The published name of the rule's type.
+    #[must_use]
     pub const fn name(&self) -> &'static str {
         match self {
             Self::SolLimit { .. } => "SolLimit",
@@ -133,6 +139,7 @@ impl Rule {
     }
 
     /// The mint of a token rule.
+    #[must_use]
     pub const fn mint(&self) -> Option<&Key> {
         match self {
             Self::TokenLimit { mint, .. }
@@ -143,12 +150,29 @@ impl Rule {
     }
 
     /// The fields of a recurring limit.
+    #[must_use]
     pub const fn recurring(&self) -> Option<&Recurring> {
         match self {
             Self::SolRecurringLimit(recurring) | Self::TokenRecurringLimit { recurring, .. } => {
                 Some(recurring)
             }
             _ => None,
+        }
+    }
+
+    /// The amount that is allowed: what remains, a window's limit, or a maximum.
+    fn allowed(&mut self) -> Option<&mut u64> {
+        match self {
+            Self::SolLimit { remaining: amount }
+            | Self::SolMaxPerTx { max: amount }
+            | Self::TokenLimit {
+                remaining: amount, ..
+            }
+            | Self::TokenMaxPerTx { max: amount, .. } => Some(amount),
+            Self::SolRecurringLimit(recurring) | Self::TokenRecurringLimit { recurring, .. } => {
+                Some(&mut recurring.limit)
+            }
+            Self::ProgramWhitelist { .. } | Self::ProgramBlacklist { .. } => None,
         }
     }
 
@@ -188,22 +212,22 @@ impl Rule {
             2 => Self::SolRecurringLimit(Recurring::parse(&mut data)?),
             3 => Self::SolMaxPerTx { max: data.u64()? },
             4 => Self::TokenLimit {
-                mint: data.array()?,
+                mint: data.key()?,
                 remaining: data.u64()?,
             },
             5 => Self::TokenRecurringLimit {
-                mint: data.array()?,
+                mint: data.key()?,
                 recurring: Recurring::parse(&mut data)?,
             },
             6 => Self::TokenMaxPerTx {
-                mint: data.array()?,
+                mint: data.key()?,
                 max: data.u64()?,
             },
             10 => Self::ProgramWhitelist {
-                program_id: data.array()?,
+                program_id: data.key()?,
             },
             11 => Self::ProgramBlacklist {
-                program_id: data.array()?,
+                program_id: data.key()?,
             },
             _ => return None,
         };
@@ -221,20 +245,61 @@ impl Rule {
                 remaining: amount,
             }
             | Self::TokenMaxPerTx { mint, max: amount } => {
-                [&mint[..], &amount.to_le_bytes()].concat()
+                [&mint.0[..], &amount.to_le_bytes()].concat()
             }
             Self::TokenRecurringLimit { mint, recurring } => {
-                [&mint[..], &recurring.data()].concat()
+                [&mint.0[..], &recurring.data()].concat()
             }
             Self::ProgramWhitelist { program_id } | Self::ProgramBlacklist { program_id } => {
-                program_id.to_vec()
+                program_id.0.to_vec()
             }
         }
     }
 }
 
 impl Action {
+    /// The action as creation wants it: nothing spent, no window begun. What
+    /// remains of a limit that does not recur stays as it is.
+    ///
+    /// So a policy is renewed: its actions are read, made fresh, raised or not, and
+    /// built again.
+    ///
+    /// ```
+    /// use thimbleford::region::{self, Action, Recurring, RegionFault, Rule};
+    ///
+    /// let used = Recurring { limit: 100, spent: 70, window: 10, last_reset: 20 };
+    /// let old = Action { expires_at: 500, rule: Rule::SolRecurringLimit(used) };
+    /// let error = region::build(&[old]).unwrap_err();
+    /// assert_eq!(error.fault, RegionFault::NotFresh { action: 0 });
+    ///
+    /// let term = Action { expires_at: 900, ..old.fresh() };
+    /// let renewed = region::build(&[term.raised(50).ok_or("no limit any more")?])?;
+    /// let raised = Recurring::fresh(150, 10);
+    /// assert_eq!(region::read(&renewed)?[0].rule, Rule::SolRecurringLimit(raised));
+    /// # Ok::<(), Box<dyn std::error::Error>>(())
+    /// ```
+    #[must_use]
+    pub fn fresh(mut self) -> Self {
+        if let Rule::SolRecurringLimit(recurring) | Rule::TokenRecurringLimit { recurring, .. } =
+            &mut self.rule
+        {
+            *recurring = Recurring::fresh(recurring.limit, recurring.window);
+        }
+        self
+    }
+
+    /// The action with so much more to spend: more that remains, a higher limit of
+    /// each window, or a higher maximum. Nothing where it is a list, and where the
+    /// amount would come to 2^64 - 1 or more: that is no limit any more.
+    #[must_use]
+    pub fn raised(mut self, by: u64) -> Option<Self> {
+        let allowed = self.rule.allowed()?;
+        *allowed = allowed.checked_add(by).filter(|sum| *sum < u64::MAX)?;
+        Some(self)
+    }
+
     /// Whether the action is expired at a slot.
+    #[must_use]
     pub const fn is_expired(&self, slot: u64) -> bool {
         self.expires_at != NEVER && slot > self.expires_at
     }
@@ -244,6 +309,7 @@ impl Action {
     ///
     /// For `SolMaxPerTx` it is the gross outflow that counts as spent, for the
     /// others what the vault or the mint's balance is lower by.
+    #[must_use]
     pub const fn remaining(&self, slot: u64) -> Option<u64> {
         let live = match self.rule {
             Rule::SolLimit { remaining } | Rule::TokenLimit { remaining, .. } => remaining,

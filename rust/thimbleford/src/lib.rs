@@ -1,14 +1,17 @@
 //! Judges what a school's tablet may spend, for the co-signer of its vault.
 //!
-//! A session's policy is an *action region*: bytes that the co-signer stores.
-//! [`create`] says whether a region may be stored. For each transaction [`judge`]
-//! looks at the accounts before and after, and says whether it may be signed; an
-//! accepted call lowers what is left in the region, which is then stored again.
+//! A session's policy is an *action region*: bytes that the co-signer stores, as a
+//! [`Policy`]. For each transaction one call with the accounts before and after says
+//! whether it may be signed, and settles it: an accepted call lowers what is left in
+//! the policy, which is then stored again. [`Policy::dry_run`] answers the same and
+//! settles nothing.
 //!
-//! Both call proved functions across a C boundary: what each answers and each byte
-//! it leaves is determined by a definition, for any bytes at all. On the way there
-//! is no allocation and no panic, and nothing is kept, so calls on different
-//! regions may be made at once.
+//! [`create`], [`judge`] and [`dry_run`] do so on plain bytes. They call proved
+//! functions across a C boundary: what each answers and each byte it leaves is
+//! determined by a definition, for any bytes at all. On the way there is no
+//! allocation and no panic, and nothing is kept, so calls on different regions may be
+//! made at once. On one policy they must not: reading, judging and storing it is one
+//! step at a time, which is the co-signer's to see to.
 //!
 //! The parts are built and read by
 //! - [`region`]: an action region from typed actions, and what is left in one,
@@ -16,13 +19,11 @@
 //! - [`instructions`]: compact instructions from lists.
 //!
 //! ```
-//! use thimbleford::{create, instructions, judge, table, Call, Refusal};
-//! use thimbleford::region::{self, Action, Rule, NEVER};
+//! use thimbleford::{instructions, table, Call, Policy, Refusal};
+//! use thimbleford::region::{Action, Rule, NEVER};
 //!
-//! let mut policy = region::build(&[
-//!     Action { expires_at: NEVER, rule: Rule::SolLimit { remaining: 100 } },
-//! ])?;
-//! create(&policy)?;
+//! let limit = Rule::SolLimit { remaining: 100 };
+//! let mut policy = Policy::create(&[Action { expires_at: NEVER, rule: limit }])?;
 //!
 //! let accounts = table::build(&[])?;
 //! let nothing = instructions::build(&[], 0)?;
@@ -36,32 +37,40 @@
 //!     lamports_after: 460,
 //!     gross: 40,
 //! };
-//! judge(&mut policy, &call)?;
-//! assert_eq!(region::read(&policy)?[0].remaining(1), Some(60));
+//! policy.dry_run(&call)?;
+//! assert_eq!(policy.actions()[0].remaining(1), Some(100));
+//! policy.judge(&call)?;
+//! assert_eq!(policy.actions()[0].remaining(1), Some(60));
 //!
 //! let dearer = Call { lamports_after: 439, gross: 61, ..call };
-//! assert_eq!(judge(&mut policy, &dearer), Err(Refusal::ActionSolLimitExceeded));
+//! assert_eq!(policy.judge(&dearer), Err(Refusal::ActionSolLimitExceeded));
 //! # Ok::<(), Box<dyn std::error::Error>>(())
 //! ```
+#![no_std]
+
+extern crate alloc;
 
 mod action;
 mod boundary;
 mod bytes;
 pub mod instructions;
+mod key;
+mod malformed;
+mod policy;
 mod refusal;
 pub mod region;
 pub mod table;
 
 pub use boundary::{archive_version, BOUNDARY_VERSION};
+pub use key::{Key, KeyError, SPL_TOKEN, TOKEN_2022};
+pub use malformed::Malformed;
+pub use policy::Policy;
 pub use refusal::Refusal;
 
 /// The README's example is run with those of the crate.
 #[cfg(doctest)]
 #[doc = include_str!("../../../README.md")]
 struct Readme;
-
-/// A key of 32 bytes: an account's, a mint's or a program's.
-pub type Key = [u8; 32];
 
 /// What a judged call is about: the accounts before and after, what is to be
 /// run, whose vault it is, and the lamports that move.
@@ -98,12 +107,15 @@ pub struct Call<'a> {
 /// // A type without the rest of its header.
 /// assert_eq!(create(&[1]), Err(Refusal::ActionBufferInvalid));
 /// ```
+///
+/// # Errors
+/// The refusal.
 pub fn create(region: &[u8]) -> Result<(), Refusal> {
     boundary::create(region)
 }
 
-/// Judges a call on a stored region. An accepted one lowers what is left in the
-/// region; a refused one changes nothing.
+/// Judges a call on a stored region, and settles it: an accepted one lowers what is
+/// left in the region, so it is judged once; a refused one changes nothing.
 ///
 /// ```
 /// use thimbleford::{judge, Call, Refusal};
@@ -143,6 +155,48 @@ pub fn create(region: &[u8]) -> Result<(), Refusal> {
 /// let within = Call { before: &region[..2], ..call };
 /// judge(&mut region, &within);
 /// ```
+///
+/// # Errors
+/// The refusal.
 pub fn judge(region: &mut [u8], call: &Call<'_>) -> Result<(), Refusal> {
     boundary::judge(region, call)
+}
+
+/// What [`judge`] would answer, on a region that stays as it is: nothing is settled.
+///
+/// That a call would be accepted is no leave to sign it: another one may be judged
+/// in between.
+///
+/// ```
+/// use thimbleford::region::{self, Action, Rule, NEVER};
+/// use thimbleford::{dry_run, Call, Refusal};
+///
+/// let limit = Rule::SolLimit { remaining: 5 };
+/// let region = region::build(&[Action { expires_at: NEVER, rule: limit }])?;
+/// let call = Call {
+///     before: &[0, 0],
+///     after: &[0, 0],
+///     instructions: &[0],
+///     vault: &[7; 32],
+///     slot: 1,
+///     lamports_before: 5,
+///     lamports_after: 0,
+///     gross: 5,
+/// };
+/// assert_eq!(dry_run(&region, &call), Ok(()));
+/// assert_eq!(dry_run(&region, &call), Ok(()));
+/// let dearer = Call { lamports_before: 6, ..call };
+/// assert_eq!(dry_run(&region, &dearer), Err(Refusal::ActionSolLimitExceeded));
+/// # Ok::<(), region::RegionError>(())
+/// ```
+///
+/// # Errors
+/// The refusal.
+pub fn dry_run(region: &[u8], call: &Call<'_>) -> Result<(), Refusal> {
+    // A copy is judged. Of a region that is too long for the stored form one byte too many is
+    // enough: it is proved that all of those are answered alike.
+    let mut copy = [0; region::MAX_BYTES + 1];
+    let len = region.len().min(copy.len());
+    copy[..len].copy_from_slice(&region[..len]);
+    judge(&mut copy[..len], call)
 }

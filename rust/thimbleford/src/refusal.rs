@@ -1,6 +1,6 @@
 //! The table of numbers: each refusal's number, name and sentence stand here once.
 
-use std::{error::Error, fmt, num::NonZeroU32};
+use core::{error::Error, fmt, num::NonZeroU32};
 
 use crate::BOUNDARY_VERSION;
 
@@ -48,6 +48,7 @@ macro_rules! refusals {
 
             /// The number in the table. It is never 0. Where no function of the
             /// table was asked, as with another archive, it is 2^32 - 1.
+            #[must_use]
             pub const fn number(self) -> u32 {
                 match self {
                     $(Self::$refusal => $number,)*
@@ -57,6 +58,7 @@ macro_rules! refusals {
             }
 
             /// The name in the table.
+            #[must_use]
             pub const fn name(self) -> &'static str {
                 match self {
                     $(Self::$refusal => $name,)*
@@ -66,6 +68,7 @@ macro_rules! refusals {
             }
 
             /// For the teacher: which rule said no, and what to do about it.
+            #[must_use]
             pub const fn sentence(self) -> &'static str {
                 match self {
                     $(Self::$refusal => $sentence,)*
@@ -186,6 +189,8 @@ impl Error for Refusal {}
 
 #[cfg(test)]
 mod tests {
+    use alloc::{format, string::ToString, vec::Vec};
+
     use super::Refusal;
 
     #[test]

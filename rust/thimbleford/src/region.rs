@@ -1,13 +1,18 @@
 //! The action region: what a session may spend, built from typed actions and
 //! shown as such again.
 
-use std::{error::Error, fmt};
+use alloc::vec::Vec;
+use core::fmt;
 
 pub use crate::action::{Action, Recurring, Rule, NEVER};
-use crate::{bytes::Cursor, Refusal};
+use crate::{bytes::Cursor, Malformed, Refusal};
 
 /// The most actions that a region may have.
 pub const MAX_ACTIONS: usize = 16;
+
+/// The most bytes that a region in stored form has: each action a token's recurring
+/// limit.
+pub const MAX_BYTES: usize = MAX_ACTIONS * (11 + 64);
 
 /// The bytes of a region to create.
 ///
@@ -15,7 +20,8 @@ pub const MAX_ACTIONS: usize = 16;
 /// fault; what it builds is accepted.
 ///
 /// ```
-/// use thimbleford::{create, region::{self, Action, Recurring, RegionError, Rule, NEVER}};
+/// use thimbleford::create;
+/// use thimbleford::region::{self, Action, Recurring, RegionError, RegionFault, Rule, NEVER};
 ///
 /// let weekly = Rule::SolRecurringLimit(Recurring::fresh(5_000_000, 1_512_000));
 /// let policy = region::build(&[
@@ -26,18 +32,20 @@ pub const MAX_ACTIONS: usize = 16;
 ///
 /// let twice = [Action { expires_at: NEVER, rule: weekly }; 2];
 /// let error = region::build(&twice).unwrap_err();
-/// assert_eq!(error, RegionError::Repeated { first: 0, action: 1 });
+/// assert_eq!(error.fault, RegionFault::Repeated { first: 0, action: 1 });
 /// # Ok::<(), RegionError>(())
 /// ```
+///
+/// # Errors
+/// Where creation refuses the actions; [`RegionError::refusal`] is its answer.
 pub fn build(actions: &[Action]) -> Result<Vec<u8>, RegionError> {
-    if actions.len() > MAX_ACTIONS {
-        return Err(RegionError::TooManyActions);
-    }
-    check(actions)?;
-    let used = |recurring: &Recurring| recurring.spent != 0 || recurring.last_reset != 0;
-    if let Some(action) = position(actions, |rule| rule.recurring().is_some_and(used)) {
-        return Err(RegionError::NotFresh { action });
-    }
+    check_to_create(actions).map_err(|fault| {
+        let refusal = match fault {
+            RegionFault::BothLists { .. } => Refusal::ActionWhitelistBlacklistConflict,
+            _ => Refusal::ActionBufferInvalid,
+        };
+        RegionError::new(fault, refusal)
+    })?;
     let mut bytes = Vec::new();
     for action in actions {
         action.write(&mut bytes);
@@ -46,21 +54,44 @@ pub fn build(actions: &[Action]) -> Result<Vec<u8>, RegionError> {
 }
 
 /// The actions of a region in stored form: as it was created, or as accepted
-/// calls left it. Other bytes are an error, and [`judge`](crate::judge) answers
-/// [`Refusal::BadRegion`] to them.
+/// calls left it.
 ///
 /// ```
-/// use thimbleford::region::{self, Action, RegionError, Rule, NEVER};
+/// use thimbleford::region::{self, Action, RegionError, RegionFault, Rule, NEVER};
+/// use thimbleford::Refusal;
 ///
 /// let stored = region::build(&[Action { expires_at: NEVER, rule: Rule::SolLimit { remaining: 60 } }])?;
 /// for action in region::read(&stored)? {
 ///     assert_eq!(action.rule.name(), "SolLimit");
 ///     assert_eq!(action.remaining(1), Some(60));
 /// }
-/// assert_eq!(region::read(&stored[..10]), Err(RegionError::ShortHeader { action: 0 }));
+/// let error = region::read(&stored[..10]).unwrap_err();
+/// assert_eq!(error.fault, RegionFault::ShortHeader { action: 0 });
+/// assert_eq!(error.refusal(), Refusal::BadRegion);
 /// # Ok::<(), RegionError>(())
 /// ```
+///
+/// # Errors
+/// Where the bytes are not in stored form: a judged call answers
+/// [`Refusal::BadRegion`] to them.
 pub fn read(region: &[u8]) -> Result<Vec<Action>, RegionError> {
+    stored_actions(region).map_err(|fault| RegionError::new(fault, Refusal::BadRegion))
+}
+
+/// What creation asks of typed actions.
+fn check_to_create(actions: &[Action]) -> Result<(), RegionFault> {
+    if actions.len() > MAX_ACTIONS {
+        return Err(RegionFault::TooManyActions);
+    }
+    check(actions)?;
+    let used = |recurring: &Recurring| recurring.spent != 0 || recurring.last_reset != 0;
+    match position(actions, |rule| rule.recurring().is_some_and(used)) {
+        Some(action) => Err(RegionFault::NotFresh { action }),
+        None => Ok(()),
+    }
+}
+
+fn stored_actions(region: &[u8]) -> Result<Vec<Action>, RegionFault> {
     let actions = cut(region)?
         .iter()
         .enumerate()
@@ -68,7 +99,7 @@ pub fn read(region: &[u8]) -> Result<Vec<Action>, RegionError> {
             let rule = Rule::parse(part.code, part.data);
             Ok(Action {
                 expires_at: part.expires_at,
-                rule: rule.ok_or(RegionError::WrongLength { action })?,
+                rule: rule.ok_or(RegionFault::WrongLength { action })?,
             })
         })
         .collect::<Result<Vec<_>, _>>()?;
@@ -84,24 +115,24 @@ struct Part<'a> {
 }
 
 /// Rule (a): all bytes are actions, and they are not too many.
-fn cut(region: &[u8]) -> Result<Vec<Part<'_>>, RegionError> {
+fn cut(region: &[u8]) -> Result<Vec<Part<'_>>, RegionFault> {
     let mut cursor = Cursor::new(region);
     let mut parts = Vec::new();
     while !cursor.is_done() {
         let action = parts.len();
         if action == MAX_ACTIONS {
-            return Err(RegionError::TooManyActions);
+            return Err(RegionFault::TooManyActions);
         }
-        let header = header(&mut cursor).ok_or(RegionError::ShortHeader { action })?;
+        let header = header(&mut cursor).ok_or(RegionFault::ShortHeader { action })?;
         let (code, len, expires_at) = header;
         if !Rule::is_known(code) {
-            return Err(RegionError::UnknownType { action, code });
+            return Err(RegionFault::UnknownType { action, code });
         }
         let data = cursor.take(len.into());
         parts.push(Part {
             code,
             expires_at,
-            data: data.ok_or(RegionError::DataPastEnd { action })?,
+            data: data.ok_or(RegionFault::DataPastEnd { action })?,
         });
     }
     Ok(parts)
@@ -109,17 +140,15 @@ fn cut(region: &[u8]) -> Result<Vec<Part<'_>>, RegionError> {
 
 /// Type, data length and expires_at.
 fn header(cursor: &mut Cursor<'_>) -> Option<(u8, u16, u64)> {
-    let [code] = cursor.array()?;
-    let len = u16::from_le_bytes(cursor.array()?);
-    Some((code, len, cursor.u64()?))
+    Some((cursor.u8()?, cursor.u16()?, cursor.u64()?))
 }
 
 /// Rules (c) to (e) and the windows, in creation's order.
-fn check(actions: &[Action]) -> Result<(), RegionError> {
+fn check(actions: &[Action]) -> Result<(), RegionFault> {
     let whitelist = position(actions, |r| matches!(r, Rule::ProgramWhitelist { .. }));
     let blacklist = position(actions, |r| matches!(r, Rule::ProgramBlacklist { .. }));
     if let (Some(whitelist), Some(blacklist)) = (whitelist, blacklist) {
-        return Err(RegionError::BothLists {
+        return Err(RegionFault::BothLists {
             whitelist,
             blacklist,
         });
@@ -128,11 +157,11 @@ fn check(actions: &[Action]) -> Result<(), RegionError> {
         let alike =
             |of: &Rule| !of.is_list() && of.code() == rule.code() && of.mint() == rule.mint();
         if let Some(first) = position(&actions[..action], alike) {
-            return Err(RegionError::Repeated { first, action });
+            return Err(RegionFault::Repeated { first, action });
         }
     }
     match position(actions, |r| r.recurring().is_some_and(|r| r.window == 0)) {
-        Some(action) => Err(RegionError::NoWindow { action }),
+        Some(action) => Err(RegionFault::NoWindow { action }),
         None => Ok(()),
     }
 }
@@ -142,10 +171,16 @@ fn position(actions: &[Action], test: impl Fn(&Rule) -> bool) -> Option<usize> {
     actions.iter().position(|action| test(&action.rule))
 }
 
-/// Why actions make no region, or bytes are none. An action is named by its
+/// Why actions make no region, or bytes are none.
+pub type RegionError = Malformed<RegionFault>;
+
+/// What is wrong with actions, or with a region's bytes. An action is named by its
 /// place in the list, from 0.
 #[derive(Clone, Copy, Debug, PartialEq, Eq)]
-pub enum RegionError {
+#[non_exhaustive]
+pub enum RegionFault {
+    /// No action at all, where a policy has to have one.
+    Empty,
     /// Fewer bytes are left than a header has.
     ShortHeader {
         /// The action that would begin there.
@@ -194,21 +229,14 @@ pub enum RegionError {
         /// The action.
         action: usize,
     },
+    /// Creation refused them all the same: the archive is of another version.
+    Refused,
 }
 
-impl RegionError {
-    /// What [`create`](crate::create) answers for this fault.
-    pub const fn refusal(&self) -> Refusal {
-        match self {
-            Self::BothLists { .. } => Refusal::ActionWhitelistBlacklistConflict,
-            _ => Refusal::ActionBufferInvalid,
-        }
-    }
-}
-
-impl fmt::Display for RegionError {
+impl fmt::Display for RegionFault {
     fn fmt(&self, f: &mut fmt::Formatter<'_>) -> fmt::Result {
         match self {
+            Self::Empty => write!(f, "no actions, so nothing would be limited"),
             Self::ShortHeader { action } => write!(f, "action {action} ends within its header"),
             Self::UnknownType { action, code } => {
                 write!(f, "action {action} has the unknown type {code}")
@@ -235,8 +263,7 @@ impl fmt::Display for RegionError {
             Self::NotFresh { action } => {
                 write!(f, "action {action} has spent or was reset before creation")
             }
+            Self::Refused => write!(f, "creation refused sound actions"),
         }
     }
 }
-
-impl Error for RegionError {}

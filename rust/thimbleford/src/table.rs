@@ -1,8 +1,9 @@
 //! The account table: the records that a call's instructions name by index.
 
-use std::{error::Error, fmt};
+use alloc::vec::Vec;
+use core::fmt;
 
-use crate::{Key, Refusal};
+use crate::{bytes::Cursor, Key, Malformed, Refusal};
 
 /// The most records that a table may have.
 pub const MAX_RECORDS: usize = 64;
@@ -26,26 +27,58 @@ pub struct Record<'a> {
 /// The bytes of an account table.
 ///
 /// ```
-/// use thimbleford::table::{self, Record, TableError};
+/// use thimbleford::table::{self, Record, TableError, TableFault};
+/// use thimbleford::Key;
 ///
-/// let system = Record { key: [0; 32], owner: [1; 32], data: b"system_program" };
+/// let system = Record { key: Key([0; 32]), owner: Key([1; 32]), data: b"system_program" };
 /// let before = table::build(&[system])?;
 /// assert_eq!(before.len(), 2 + 32 + 32 + 4 + 14);
 ///
 /// let error = table::build(&[system; 65]).unwrap_err();
-/// assert_eq!(error, TableError::TooManyRecords { count: 65 });
+/// assert_eq!(error.fault, TableFault::TooManyRecords { count: 65 });
 /// # Ok::<(), TableError>(())
 /// ```
+///
+/// # Errors
+/// Where there are too many records, or too much data in one.
 pub fn build(records: &[Record<'_>]) -> Result<Vec<u8>, TableError> {
+    laid(records).map_err(bad_table)
+}
+
+/// The records of an account table.
+///
+/// ```
+/// use thimbleford::table::{self, TableError, TableFault};
+///
+/// assert_eq!(table::read(&[0, 0])?, []);
+///
+/// let error = table::read(&[1, 0, 7]).unwrap_err();
+/// assert_eq!(error.fault, TableFault::ShortRecord { record: 0 });
+/// # Ok::<(), TableError>(())
+/// ```
+///
+/// # Errors
+/// Where the bytes are no table: [`judge`](crate::judge) answers
+/// [`Refusal::BadTable`] to them.
+pub fn read(table: &[u8]) -> Result<Vec<Record<'_>>, TableError> {
+    cut(table).map_err(bad_table)
+}
+
+fn bad_table(fault: TableFault) -> TableError {
+    TableError::new(fault, Refusal::BadTable)
+}
+
+/// The bytes of records within the table's limits.
+fn laid(records: &[Record<'_>]) -> Result<Vec<u8>, TableFault> {
     let count = records.len();
     if count > MAX_RECORDS {
-        return Err(TableError::TooManyRecords { count });
+        return Err(TableFault::TooManyRecords { count });
     }
     let mut bytes = (count as u16).to_le_bytes().to_vec();
     for (at, record) in records.iter().enumerate() {
         let len = data_len(at, record.data.len())?;
-        bytes.extend(record.key);
-        bytes.extend(record.owner);
+        bytes.extend(record.key.0);
+        bytes.extend(record.owner.0);
         bytes.extend(len.to_le_bytes());
         bytes.extend(record.data);
     }
@@ -53,13 +86,47 @@ pub fn build(records: &[Record<'_>]) -> Result<Vec<u8>, TableError> {
 }
 
 /// The data length of a record, which has four bytes in the table.
-fn data_len(record: usize, length: usize) -> Result<u32, TableError> {
-    u32::try_from(length).map_err(|_| TableError::DataTooLong { record, length })
+fn data_len(record: usize, length: usize) -> Result<u32, TableFault> {
+    u32::try_from(length).map_err(|_| TableFault::DataTooLong { record, length })
 }
 
-/// Why records make no table.
+/// The records of a table that ends with its last one.
+fn cut(table: &[u8]) -> Result<Vec<Record<'_>>, TableFault> {
+    let mut cursor = Cursor::new(table);
+    let count = usize::from(cursor.u16().ok_or(TableFault::ShortCount)?);
+    if count > MAX_RECORDS {
+        return Err(TableFault::TooManyRecords { count });
+    }
+    let records = (0..count)
+        .map(|record| {
+            let header = header(&mut cursor).ok_or(TableFault::ShortRecord { record })?;
+            let (key, owner, len) = header;
+            let data = cursor.take(len as usize);
+            let data = data.ok_or(TableFault::DataPastEnd { record })?;
+            Ok(Record { key, owner, data })
+        })
+        .collect::<Result<_, _>>()?;
+    match cursor.len() {
+        0 => Ok(records),
+        bytes => Err(TableFault::BytesBehind { bytes }),
+    }
+}
+
+/// Key, owning program and data length.
+fn header(cursor: &mut Cursor<'_>) -> Option<(Key, Key, u32)> {
+    Some((cursor.key()?, cursor.key()?, cursor.u32()?))
+}
+
+/// Why records make no table, or bytes are none.
+pub type TableError = Malformed<TableFault>;
+
+/// What is wrong with records, or with a table's bytes. A record is named by its
+/// place, from 0.
 #[derive(Clone, Copy, Debug, PartialEq, Eq)]
-pub enum TableError {
+#[non_exhaustive]
+pub enum TableFault {
+    /// Fewer bytes than the count of records has.
+    ShortCount,
     /// More than [`MAX_RECORDS`] records.
     TooManyRecords {
         /// How many there are.
@@ -67,23 +134,32 @@ pub enum TableError {
     },
     /// Data whose length does not fit four bytes.
     DataTooLong {
-        /// The record's place, from 0.
+        /// The record.
         record: usize,
         /// Its data's length.
         length: usize,
     },
+    /// Fewer bytes are left than a record has before its data.
+    ShortRecord {
+        /// The record that would begin there.
+        record: usize,
+    },
+    /// A record's data passes the table's end.
+    DataPastEnd {
+        /// The record.
+        record: usize,
+    },
+    /// Bytes behind the last record.
+    BytesBehind {
+        /// How many there are.
+        bytes: usize,
+    },
 }
 
-impl TableError {
-    /// What [`judge`](crate::judge) answers to such a table.
-    pub const fn refusal(&self) -> Refusal {
-        Refusal::BadTable
-    }
-}
-
-impl fmt::Display for TableError {
+impl fmt::Display for TableFault {
     fn fmt(&self, f: &mut fmt::Formatter<'_>) -> fmt::Result {
         match self {
+            Self::ShortCount => write!(f, "the table ends within its count"),
             Self::TooManyRecords { count } => {
                 write!(f, "{count} records, and at most {MAX_RECORDS} may be there")
             }
@@ -94,14 +170,21 @@ impl fmt::Display for TableError {
                     u32::MAX
                 )
             }
+            Self::ShortRecord { record } => {
+                write!(f, "record {record} ends before its data")
+            }
+            Self::DataPastEnd { record } => write!(f, "record {record} ends within its data"),
+            Self::BytesBehind { bytes } => {
+                write!(f, "{bytes} bytes follow the last record")
+            }
         }
     }
 }
 
-impl Error for TableError {}
-
 #[cfg(test)]
 mod tests {
+    use alloc::string::ToString;
+
     use super::*;
 
     #[test]
@@ -109,7 +192,7 @@ mod tests {
         assert_eq!(data_len(3, 0xFFFF_FFFF), Ok(u32::MAX));
         let error = data_len(3, 0x1_0000_0000).unwrap_err();
         let (record, length) = (3, 0x1_0000_0000);
-        assert_eq!(error, TableError::DataTooLong { record, length });
+        assert_eq!(error, TableFault::DataTooLong { record, length });
         assert_eq!(
             error.to_string(),
             "record 3 has 4294967296 bytes of data, and at most 4294967295 may be there"

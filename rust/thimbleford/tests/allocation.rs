@@ -7,10 +7,10 @@ use std::{
 };
 
 use thimbleford::{
-    create, instructions, judge,
+    create, dry_run, instructions, judge,
     region::{self, Action, Recurring, Rule, NEVER},
     table::{self, Record},
-    Call, Refusal,
+    Call, Key, Refusal,
 };
 
 thread_local! {
@@ -48,11 +48,11 @@ fn creation_and_judging_allocate_nothing() {
         Rule::SolLimit { remaining: 100 },
         Rule::SolRecurringLimit(Recurring::fresh(100, 10)),
         Rule::TokenLimit {
-            mint: [9; 32],
+            mint: Key([9; 32]),
             remaining: 5,
         },
         Rule::ProgramBlacklist {
-            program_id: [3; 32],
+            program_id: Key([3; 32]),
         },
     ];
     let actions = rules.map(|rule| Action {
@@ -63,8 +63,8 @@ fn creation_and_judging_allocate_nothing() {
     assert!(allocations > 0, "what allocates is counted");
     let mut policy = built.unwrap();
     let record = Record {
-        key: [1; 32],
-        owner: [2; 32],
+        key: Key([1; 32]),
+        owner: Key([2; 32]),
         data: &[0; 200],
     };
     let accounts = table::build(&[record; 64]).unwrap();
@@ -83,6 +83,7 @@ fn creation_and_judging_allocate_nothing() {
     assert_eq!(counted(|| create(&policy)), (Ok(()), 0));
     let refused = (Err(Refusal::ActionBufferInvalid), 0);
     assert_eq!(counted(|| create(&policy[1..])), refused);
+    assert_eq!(counted(|| dry_run(&policy, &call)), (Ok(()), 0));
     assert_eq!(counted(|| judge(&mut policy, &call)), (Ok(()), 0));
     let refused = (Err(Refusal::ActionSolLimitExceeded), 0);
     assert_eq!(counted(|| judge(&mut policy, &call)), refused);

@@ -2,21 +2,17 @@
 //! each number of a judged call, by the smallest call that gets it.
 
 use thimbleford::{
-    create,
+    create, dry_run,
     instructions::{self, CompactInstruction},
     judge,
     region::{self, Action, Recurring, Rule, NEVER},
     table::{self, Record},
-    Call, Key, Refusal,
+    Call, Key, Refusal, SPL_TOKEN, TOKEN_2022,
 };
 
-const VAULT: Key = [7; 32];
-const MINT: Key = [9; 32];
-const PROGRAM: Key = [4; 32];
-const SPL_TOKEN: Key = [
-    6, 221, 246, 225, 215, 101, 161, 147, 217, 203, 225, 70, 206, 235, 121, 172, 28, 180, 133, 237,
-    95, 91, 55, 145, 58, 140, 245, 133, 126, 255, 0, 169,
-];
+const VAULT: Key = Key([7; 32]);
+const MINT: Key = Key([9; 32]);
+const PROGRAM: Key = Key([4; 32]);
 
 /// A region of one action that never expires.
 fn policy(rule: Rule) -> Vec<u8> {
@@ -33,7 +29,7 @@ fn spending(slot: u64, lamports: u64) -> Call<'static> {
         before: &[0, 0],
         after: &[0, 0],
         instructions: &[0],
-        vault: &VAULT,
+        vault: &VAULT.0,
         slot,
         lamports_before: lamports,
         lamports_after: 0,
@@ -44,20 +40,21 @@ fn spending(slot: u64, lamports: u64) -> Call<'static> {
 /// The data of the vault's account of a mint.
 fn token_account(amount: u64) -> [u8; 165] {
     let mut data = [0; 165];
-    data[..32].copy_from_slice(&MINT);
-    data[32..64].copy_from_slice(&VAULT);
+    data[..32].copy_from_slice(&MINT.0);
+    data[32..64].copy_from_slice(&VAULT.0);
     data[64..72].copy_from_slice(&amount.to_le_bytes());
     data
 }
 
 /// A table of one token account.
 fn tokens(data: &[u8]) -> Vec<u8> {
-    let record = Record {
-        key: [1; 32],
-        owner: SPL_TOKEN,
-        data,
-    };
-    table::build(&[record]).unwrap()
+    owned(SPL_TOKEN, data)
+}
+
+/// A table of one record under a program.
+fn owned(owner: Key, data: &[u8]) -> Vec<u8> {
+    let key = Key([1; 32]);
+    table::build(&[Record { key, owner, data }]).unwrap()
 }
 
 #[test]
@@ -118,7 +115,7 @@ fn a_window_ends_after_its_last_slot() {
 fn each_number_of_a_judged_call_is_answered() {
     let program = Record {
         key: PROGRAM,
-        owner: [0; 32],
+        owner: Key([0; 32]),
         data: &[],
     };
     let programs = table::build(&[program]).unwrap();
@@ -165,7 +162,7 @@ fn each_number_of_a_judged_call_is_answered() {
         ),
         (
             policy(Rule::ProgramWhitelist {
-                program_id: [5; 32],
+                program_id: Key([5; 32]),
             }),
             running,
             4,
@@ -231,7 +228,7 @@ fn each_number_of_a_judged_call_is_answered() {
         (
             policy(sol_limit),
             Call {
-                vault: &VAULT[1..],
+                vault: &VAULT.0[1..],
                 ..running
             },
             13,
@@ -248,4 +245,51 @@ fn each_number_of_a_judged_call_is_answered() {
     let mut tokens = policy(Rule::TokenLimit { mint, remaining: 9 });
     assert_eq!(judge(&mut tokens, &paying), Ok(()));
     assert_eq!(region::read(&tokens).unwrap()[0].remaining(1), Some(3));
+}
+
+#[test]
+fn under_the_address_that_token_2022_is_known_by_nothing_is_counted() {
+    let known = "TokenzQdBNbLqP5VEhdkAS6EPFLC1PHnBqCXEpPxuEb"
+        .parse()
+        .unwrap();
+    for (program, answer) in [
+        (TOKEN_2022, Err(Refusal::ActionTokenLimitExceeded)),
+        (known, Ok(())),
+    ] {
+        let paying = Call {
+            before: &owned(program, &token_account(10)),
+            after: &owned(program, &token_account(4)),
+            ..spending(1, 0)
+        };
+        let limit = Rule::TokenLimit {
+            mint: MINT,
+            remaining: 5,
+        };
+        assert_eq!(judge(&mut policy(limit), &paying), answer);
+    }
+}
+
+#[test]
+fn a_dry_run_settles_nothing() {
+    let policy = policy(Rule::SolLimit { remaining: 100 });
+    for _ in 0..3 {
+        assert_eq!(dry_run(&policy, &spending(1, 100)), Ok(()));
+    }
+    assert_eq!(
+        dry_run(&policy, &spending(1, 101)),
+        Err(Refusal::ActionSolLimitExceeded)
+    );
+    // Too long by any number of bytes is the same fault, and not the first that is looked for.
+    for len in [1201, 1202, 100_000] {
+        let long = vec![0; len];
+        assert_eq!(dry_run(&long, &spending(1, 1)), Err(Refusal::BadRegion));
+        let garbled = Call {
+            instructions: &[],
+            ..spending(1, 1)
+        };
+        assert_eq!(
+            dry_run(&long, &garbled),
+            Err(Refusal::InvalidInstructionData)
+        );
+    }
 }

@@ -3,13 +3,13 @@
 
 use thimbleford::{
     create,
-    instructions::{self, CompactInstruction, InstructionsError},
-    region::{self, Action, Recurring, RegionError, Rule, NEVER},
-    table::{self, Record, TableError},
+    instructions::{self, CompactInstruction, InstructionsFault},
+    region::{self, Action, Recurring, RegionError, RegionFault, Rule, NEVER},
+    table::{self, Record, TableFault},
     Key, Refusal,
 };
 
-const MINT: Key = [9; 32];
+const MINT: Key = Key([9; 32]);
 
 const FRESH: Recurring = Recurring::fresh(100, 10);
 
@@ -30,10 +30,10 @@ const LIMITS: [Rule; 6] = [
 ];
 
 const WHITELIST: Rule = Rule::ProgramWhitelist {
-    program_id: [5; 32],
+    program_id: Key([5; 32]),
 };
 const BLACKLIST: Rule = Rule::ProgramBlacklist {
-    program_id: [6; 32],
+    program_id: Key([6; 32]),
 };
 
 fn actions(rules: &[Rule]) -> Vec<Action> {
@@ -72,12 +72,12 @@ fn each_rule_of_creation_is_an_error() {
     let mut cases = vec![
         (
             vec![WHITELIST; 17],
-            RegionError::TooManyActions,
+            RegionFault::TooManyActions,
             "more than 16 actions",
         ),
         (
             vec![BLACKLIST, BLACKLIST, WHITELIST],
-            RegionError::BothLists {
+            RegionFault::BothLists {
                 whitelist: 2,
                 blacklist: 0,
             },
@@ -85,7 +85,7 @@ fn each_rule_of_creation_is_an_error() {
         ),
         (
             recurring(Recurring { window: 0, ..FRESH }),
-            RegionError::NoWindow { action: 1 },
+            RegionFault::NoWindow { action: 1 },
             "action 1 has a window of 0 slots",
         ),
     ];
@@ -98,24 +98,25 @@ fn each_rule_of_creation_is_an_error() {
     ] {
         cases.push((
             recurring(used),
-            RegionError::NotFresh { action: 1 },
+            RegionFault::NotFresh { action: 1 },
             "action 1 has spent or was reset before creation",
         ));
     }
     for limit in LIMITS {
         cases.push((
             vec![limit, WHITELIST, limit],
-            RegionError::Repeated {
+            RegionFault::Repeated {
                 first: 0,
                 action: 2,
             },
             "action 2 limits again what action 0 limits",
         ));
     }
-    for (rules, error, said) in cases {
-        assert_eq!(build(&rules), Err(error));
+    for (rules, fault, said) in cases {
+        let error = build(&rules).unwrap_err();
+        assert_eq!(error.fault, fault);
         assert_eq!(error.to_string(), said);
-        let both_lists = matches!(error, RegionError::BothLists { .. });
+        let both_lists = matches!(fault, RegionFault::BothLists { .. });
         assert_eq!(error.refusal().number(), if both_lists { 2 } else { 1 });
     }
 }
@@ -124,7 +125,7 @@ fn each_rule_of_creation_is_an_error() {
 fn two_mints_may_have_a_limit_each() {
     let limit = |mint| Rule::TokenLimit { mint, remaining: 1 };
     let mut near = MINT;
-    near[31] ^= 1;
+    near.0[31] ^= 1;
     assert_eq!(
         build(&[limit(MINT), limit(near)]).map(|region| create(&region)),
         Ok(Ok(()))
@@ -145,32 +146,32 @@ fn bytes_not_in_stored_form_are_an_error() {
     let cases = [
         (
             [&limit[..], &list[..10]].concat(),
-            RegionError::ShortHeader { action: 1 },
+            RegionFault::ShortHeader { action: 1 },
             "action 1 ends within its header",
         ),
         (
             damaged(&limit, 0, 7),
-            RegionError::UnknownType { action: 0, code: 7 },
+            RegionFault::UnknownType { action: 0, code: 7 },
             "action 0 has the unknown type 7",
         ),
         (
             [&limit[..], &list[..42]].concat(),
-            RegionError::DataPastEnd { action: 1 },
+            RegionFault::DataPastEnd { action: 1 },
             "action 1 ends within its data",
         ),
         (
             list.repeat(17),
-            RegionError::TooManyActions,
+            RegionFault::TooManyActions,
             "more than 16 actions",
         ),
         (
             damaged(&limit, 0, 10),
-            RegionError::WrongLength { action: 0 },
+            RegionFault::WrongLength { action: 0 },
             "action 0 has data of another length than its type",
         ),
         (
             limit.repeat(2),
-            RegionError::Repeated {
+            RegionFault::Repeated {
                 first: 0,
                 action: 1,
             },
@@ -178,13 +179,15 @@ fn bytes_not_in_stored_form_are_an_error() {
         ),
         (
             no_window,
-            RegionError::NoWindow { action: 0 },
+            RegionFault::NoWindow { action: 0 },
             "action 0 has a window of 0 slots",
         ),
     ];
-    for (bytes, error, said) in cases {
-        assert_eq!(region::read(&bytes), Err(error));
+    for (bytes, fault, said) in cases {
+        let error = region::read(&bytes).unwrap_err();
+        assert_eq!(error.fault, fault);
         assert_eq!(error.to_string(), said);
+        assert_eq!(error.refusal().number(), 15);
     }
 }
 
@@ -200,10 +203,8 @@ fn what_was_spent_is_read_and_not_built_again() {
     };
     let read = region::read(&stored).unwrap();
     assert_eq!(read, actions(&[Rule::SolRecurringLimit(used)]));
-    assert_eq!(
-        region::build(&read),
-        Err(RegionError::NotFresh { action: 0 })
-    );
+    let error = region::build(&read).unwrap_err();
+    assert_eq!(error.fault, RegionFault::NotFresh { action: 0 });
 }
 
 #[test]
@@ -235,15 +236,15 @@ fn what_remains_depends_on_the_slot() {
 #[test]
 fn a_table_has_at_most_64_records() {
     let record = Record {
-        key: [1; 32],
-        owner: [2; 32],
+        key: Key([1; 32]),
+        owner: Key([2; 32]),
         data: &[],
     };
     assert_eq!(table::build(&[]), Ok(vec![0, 0]));
     let full = table::build(&[record; 64]).unwrap();
     assert_eq!((full.len(), &full[..2]), (2 + 64 * 68, &[64, 0][..]));
     let error = table::build(&[record; 65]).unwrap_err();
-    assert_eq!(error, TableError::TooManyRecords { count: 65 });
+    assert_eq!(error.fault, TableFault::TooManyRecords { count: 65 });
     assert_eq!(error.refusal(), Refusal::BadTable);
     assert_eq!(error.to_string(), "65 records, and at most 64 may be there");
 }
@@ -268,7 +269,7 @@ fn instructions_keep_the_writers_limits() {
     let cases = [
         (
             vec![entry; 17],
-            InstructionsError::TooManyInstructions { count: 17 },
+            InstructionsFault::TooManyInstructions { count: 17 },
             "17 instructions, and at most 16 may be there",
         ),
         (
@@ -279,7 +280,7 @@ fn instructions_keep_the_writers_limits() {
                     ..entry
                 },
             ],
-            InstructionsError::TooManyAccounts {
+            InstructionsFault::TooManyAccounts {
                 instruction: 1,
                 count: 256,
             },
@@ -290,16 +291,17 @@ fn instructions_keep_the_writers_limits() {
                 data: &data,
                 ..entry
             }],
-            InstructionsError::DataTooLong {
+            InstructionsFault::DataTooLong {
                 instruction: 0,
                 length: 65_536,
             },
             "instruction 0 has 65536 bytes of data, and at most 65535 may be there",
         ),
     ];
-    for (list, error, said) in cases {
+    for (list, fault, said) in cases {
         // A limit of writing comes before an index, as every index passes an empty table.
-        assert_eq!(instructions::build(&list, 0), Err(error));
+        let error = instructions::build(&list, 0).unwrap_err();
+        assert_eq!(error.fault, fault);
         assert_eq!(error.refusal(), Refusal::NotEncodable);
         assert_eq!(error.to_string(), said);
     }
@@ -317,8 +319,8 @@ fn an_index_names_a_record() {
         let error = instructions::build(&[entry], records).unwrap_err();
         let instruction = 0;
         assert_eq!(
-            error,
-            InstructionsError::IndexPastTable { instruction, index }
+            error.fault,
+            InstructionsFault::IndexPastTable { instruction, index }
         );
         assert_eq!(error.refusal(), Refusal::InvalidInstructionData);
         assert_eq!(

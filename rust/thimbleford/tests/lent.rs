@@ -8,7 +8,7 @@ use thimbleford::{
     judge,
     region::{self, Action, RegionError, Rule, NEVER},
     table::{Record, TableError},
-    Call, Refusal,
+    Call, Key, KeyError, Policy, Refusal,
 };
 
 const fn sent_and_shared<T: Send + Sync>() {}
@@ -19,6 +19,9 @@ const _: () = {
     sent_and_shared::<Record<'_>>();
     sent_and_shared::<CompactInstruction<'_>>();
     sent_and_shared::<Action>();
+    sent_and_shared::<Key>();
+    sent_and_shared::<KeyError>();
+    sent_and_shared::<Policy>();
     sent_and_shared::<Refusal>();
     sent_and_shared::<RegionError>();
     sent_and_shared::<TableError>();

@@ -1,10 +1,11 @@
 //! Instructions: the published code reads what is built as the same list, and
-//! resolves it where the builder lets its indexes pass.
+//! resolves it where the builder lets its indexes pass. What it reads is read, and
+//! nothing else.
 
-use compare::{chance::Chance, stream::Entry, Key};
+use compare::{chance::Chance, damage::damage, stream::Entry, Key};
 use oracle::{Instruction, Part, Record};
 use thimbleford::{
-    instructions::{build, CompactInstruction, InstructionsError},
+    instructions::{build, read, CompactInstruction, InstructionsFault},
     Refusal,
 };
 
@@ -65,29 +66,58 @@ fn a_list_is_read_and_resolved_as_it_was_built() {
                 assert!(read.iter().all(|e| oracle.resolve(&table, &bytes, e) == 0));
                 built += 1;
             }
-            Err(InstructionsError::TooManyInstructions { count }) => {
-                let bytes = compare::stream::encode(&entries);
-                assert_eq!((count, oracle.read(&bytes)), (17, Err(3)));
-                over += 1;
-            }
-            Err(error) => {
-                assert_eq!(error.refusal(), Refusal::InvalidInstructionData);
-                let InstructionsError::IndexPastTable { instruction, .. } = error else {
-                    panic!("case {case}: {error}");
-                };
-                // The entries before it resolve, and it does not.
-                let bytes = compare::stream::encode(&entries);
-                let (read, _) = oracle.read(&bytes).expect("it is a list all the same");
-                let mut numbers = read.iter().map(|e| oracle.resolve(&table, &bytes, e));
-                assert_eq!(numbers.position(|number| number == 3), Some(instruction));
-                past += 1;
-            }
+            Err(error) => match error.fault {
+                InstructionsFault::TooManyInstructions { count } => {
+                    let bytes = compare::stream::encode(&entries);
+                    assert_eq!((count, oracle.read(&bytes)), (17, Err(3)));
+                    assert_eq!(error.refusal(), Refusal::NotEncodable);
+                    over += 1;
+                }
+                InstructionsFault::IndexPastTable { instruction, .. } => {
+                    // The entries before it resolve, and it does not.
+                    let bytes = compare::stream::encode(&entries);
+                    let (read, _) = oracle.read(&bytes).expect("it is a list all the same");
+                    let mut numbers = read.iter().map(|e| oracle.resolve(&table, &bytes, e));
+                    assert_eq!(numbers.position(|number| number == 3), Some(instruction));
+                    assert_eq!(error.refusal(), Refusal::InvalidInstructionData);
+                    past += 1;
+                }
+                _ => panic!("case {case}: {error}"),
+            },
         }
     }
     assert!(
         built > 1000 && past > 100 && over > 100,
         "{built}, {past}, {over}"
     );
+}
+
+#[test]
+#[cfg_attr(not(oracle_sources), ignore)]
+fn a_list_is_read_as_the_published_code_reads_it() {
+    let oracle = published().0;
+    let (mut sound, mut others) = (0, 0);
+    for case in 0..CASES {
+        let chance = &mut Chance::of_case(3, "instructions read", case);
+        let mut bytes = compare::stream::encode(&draw(chance, 8));
+        if chance.one_in(2) {
+            damage(chance, &mut bytes);
+        }
+        match oracle.read(&bytes) {
+            Ok((list, consumed)) => {
+                let read = read(&bytes).expect("what the published code reads is read");
+                let list: Vec<_> = list.iter().map(|entry| named(&bytes, entry)).collect();
+                assert_eq!((read.list, read.consumed), (list, consumed), "case {case}");
+                sound += 1;
+            }
+            Err(number) => {
+                let error = read(&bytes).expect_err("what it refuses is not read");
+                assert_eq!(error.refusal().number(), number, "case {case}");
+                others += 1;
+            }
+        }
+    }
+    assert!(sound > 1000 && others > 500, "{sound}, {others}");
 }
 
 /// The instruction that an entry names in its source.

@@ -2,6 +2,7 @@
 //! a region comes back as its actions, a table as its records, a list as its
 //! instructions.
 
+mod dry_run;
 mod instructions;
 mod region;
 mod remaining;
@@ -12,7 +13,7 @@ use compare::{
     subjects::Published,
 };
 use oracle::Oracle;
-use thimbleford::region as cosigner;
+use thimbleford::{region as cosigner, Key};
 
 const CASES: u64 = 3000;
 
@@ -34,14 +35,24 @@ fn typed_rule(rule: Rule) -> cosigner::Rule {
         Rule::SolLimit(remaining) => cosigner::Rule::SolLimit { remaining },
         Rule::SolRecurringLimit(fields) => cosigner::Rule::SolRecurringLimit(typed_fields(fields)),
         Rule::SolMaxPerTx(max) => cosigner::Rule::SolMaxPerTx { max },
-        Rule::TokenLimit(mint, remaining) => cosigner::Rule::TokenLimit { mint, remaining },
+        Rule::TokenLimit(mint, remaining) => cosigner::Rule::TokenLimit {
+            mint: Key(mint),
+            remaining,
+        },
         Rule::TokenRecurringLimit(mint, fields) => cosigner::Rule::TokenRecurringLimit {
-            mint,
+            mint: Key(mint),
             recurring: typed_fields(fields),
         },
-        Rule::TokenMaxPerTx(mint, max) => cosigner::Rule::TokenMaxPerTx { mint, max },
-        Rule::ProgramWhitelist(program_id) => cosigner::Rule::ProgramWhitelist { program_id },
-        Rule::ProgramBlacklist(program_id) => cosigner::Rule::ProgramBlacklist { program_id },
+        Rule::TokenMaxPerTx(mint, max) => cosigner::Rule::TokenMaxPerTx {
+            mint: Key(mint),
+            max,
+        },
+        Rule::ProgramWhitelist(program) => cosigner::Rule::ProgramWhitelist {
+            program_id: Key(program),
+        },
+        Rule::ProgramBlacklist(program) => cosigner::Rule::ProgramBlacklist {
+            program_id: Key(program),
+        },
     }
 }
 

@@ -2,12 +2,7 @@
 
 use std::collections::BTreeMap;
 
-use compare::{
-    calls::{self, Call},
-    chance::Chance,
-    creation, region, runs,
-    subjects::Subject,
-};
+use compare::{calls, chance::Chance, creation, region, runs, subjects::Subject};
 use thimbleford::{region as cosigner, Refusal};
 
 use crate::{published, typed, CASES};
@@ -100,18 +95,34 @@ fn what_is_read_is_stored_by_the_published_rules() {
     reads_what_is_stored(|region| published().is_stored(region));
 }
 
-/// A call as the co-signer's crate takes it.
-fn lent(call: &Call) -> thimbleford::Call<'_> {
-    thimbleford::Call {
-        before: &call.before,
-        after: &call.after,
-        instructions: &call.instructions,
-        vault: &call.vault,
-        slot: call.slot,
-        lamports_before: call.lamports_before,
-        lamports_after: call.lamports_after,
-        gross: call.gross,
+#[test]
+fn what_is_stored_is_built_again_once_it_is_fresh() {
+    let (mut used, mut raised) = (0, 0);
+    for case in 0..CASES {
+        let chance = &mut Chance::of_case(3, "renewed", case);
+        let Ok(stored) = cosigner::read(&calls::draw(chance).0) else {
+            continue;
+        };
+        let fresh: Vec<_> = stored.iter().map(|action| action.fresh()).collect();
+        used += u64::from(fresh != stored);
+        let renewed = cosigner::build(&fresh).expect("what is fresh is built");
+        assert_eq!(thimbleford::create(&renewed), Ok(()), "case {case}");
+
+        let by = 1 + chance.below(100) as u64;
+        for (action, fresh) in stored.iter().zip(&fresh) {
+            // At a slot where nothing is expired and, where it recurs, no window has begun.
+            let allowed = |action: &cosigner::Action| action.remaining(0);
+            let more = allowed(fresh).and_then(|amount| amount.checked_add(by));
+            let more = more.filter(|amount| *amount < u64::MAX);
+            assert_eq!(
+                fresh.raised(by).and_then(|a| allowed(&a)),
+                more,
+                "{action:?}"
+            );
+            raised += u64::from(more.is_some());
+        }
     }
+    assert!(used > CASES / 10 && raised > CASES, "{used}, {raised}");
 }
 
 #[test]
@@ -123,7 +134,7 @@ fn after_each_call_of_a_run_the_amounts_are_those_that_the_published_code_left()
     for (case, run) in drawn.filter(|(_, run)| run.only_published() == 0) {
         let (mut region, mut expected) = (run.region.clone(), run.region);
         for call in &run.calls {
-            let answer = thimbleford::judge(&mut region, &lent(call));
+            let answer = thimbleford::judge(&mut region, &call.lent());
             let number = right.judge(&mut expected, call);
             assert_eq!(answer.map_or_else(Refusal::number, |()| 0), number);
             let left = region::cut(&expected).expect("what is stored is cut");

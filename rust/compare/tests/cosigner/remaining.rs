@@ -1,22 +1,16 @@
 //! What remains is the most that the published code accepts.
 
-use compare::{
-    calls,
-    chance::Chance,
-    region,
-    subjects::Subject,
-    table::{SPL_TOKEN, TOKEN_ACCOUNT},
-    Key,
-};
+use compare::{calls, chance::Chance, region, subjects::Subject, table::TOKEN_ACCOUNT};
 use thimbleford::{
     instructions,
     region::{Action, Rule},
     table::{self, Record},
+    Key, SPL_TOKEN,
 };
 
 use crate::{published, typed, CASES};
 
-const VAULT: Key = [7; 32];
+const VAULT: Key = Key([7; 32]);
 
 /// A call at a slot that spends an amount of what the rule limits.
 fn spending(rule: &Rule, slot: u64, amount: u64) -> calls::Call {
@@ -27,7 +21,7 @@ fn spending(rule: &Rule, slot: u64, amount: u64) -> calls::Call {
     let accounts = |amount| {
         let data = token_account(rule.mint().unwrap_or(&VAULT), amount);
         let record = Record {
-            key: [1; 32],
+            key: Key([1; 32]),
             owner: SPL_TOKEN,
             data: &data,
         };
@@ -37,7 +31,7 @@ fn spending(rule: &Rule, slot: u64, amount: u64) -> calls::Call {
         before: accounts(tokens),
         after: accounts(0),
         instructions: instructions::build(&[], 1).expect("no instructions are a list"),
-        vault: VAULT,
+        vault: VAULT.0,
         slot,
         lamports_before: lamports,
         lamports_after: 0,
@@ -47,7 +41,7 @@ fn spending(rule: &Rule, slot: u64, amount: u64) -> calls::Call {
 
 /// The data of the vault's account of a mint.
 fn token_account(mint: &Key, amount: u64) -> Vec<u8> {
-    let mut data = [&mint[..], &VAULT, &amount.to_le_bytes()].concat();
+    let mut data = [&mint.0[..], &VAULT.0, &amount.to_le_bytes()].concat();
     data.resize(TOKEN_ACCOUNT, 0);
     data
 }
