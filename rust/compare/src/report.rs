@@ -199,10 +199,8 @@ impl fmt::Display for Report {
             ),
             Outcome::Differs => {
                 let (all, shown) = (self.differences, self.kept.len());
-                writeln!(
-                    f,
-                    "{all} differences, {shown} shown; a case is drawn again from its seed and number"
-                )
+                let again = "a case is drawn again from its seed and number";
+                writeln!(f, "{all} differences, {shown} shown; {again}")
             }
         }
     }
