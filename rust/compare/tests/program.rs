@@ -119,18 +119,31 @@ fn too_few_cases_are_no_difference() {
 }
 
 /// The runner without a command stands in for a program that prints nothing and
-/// fails. The named runs alone do not reach every number either.
+/// fails. So few cases do not reach every number either.
 #[test]
 #[cfg_attr(not(oracle_sources), ignore)]
 fn a_difference_counts_more_than_too_few_cases() {
     let wrong = env!("CARGO_BIN_EXE_compare");
-    let said = output(&["replay", "--runs", "0", "--program", wrong]);
-    assert_eq!(said.status.code(), Some(1));
-    let text = String::from_utf8(said.stdout).unwrap();
-    assert!(text.starts_with(&head()), "{text}");
-    assert!(text.contains("never reached: "), "{text}");
-    let last = text.lines().last().unwrap();
-    assert!(last.contains(" differences, 5 shown; "), "{last}");
+    for arguments in [
+        &["replay", "--runs", "0", "--program", wrong][..],
+        &[
+            "run",
+            "--cases",
+            "1",
+            "--vectors-cases",
+            "1",
+            "--vectors",
+            wrong,
+        ],
+    ] {
+        let said = output(arguments);
+        assert_eq!(said.status.code(), Some(1), "{arguments:?}");
+        let text = String::from_utf8(said.stdout).unwrap();
+        assert!(text.starts_with(&head()), "{text}");
+        assert!(text.contains("never reached: "), "{text}");
+        let last = text.lines().last().unwrap();
+        assert!(last.contains(" differences, 5 shown; "), "{last}");
+    }
 }
 
 #[test]
