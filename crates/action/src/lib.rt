@@ -1,5 +1,6 @@
 // One action: the codes of the types and their data lengths, where an action lies, and the fields of its
 // data. Any bytes get an answer.
+#![tactic(auto)]
 pub mod fields;
 
 ghost use Rattle.std.specs.Prelude.{◌≡◌};

@@ -1,4 +1,6 @@
 // The table of numbers. Each answer is one of these; a refusal is made here and travels as it is.
+#![tactic(auto)]
+
 ghost use Rattle.std.specs.Prelude.{◌≡◌};
 ghost use Rattle.answer.specs.Numbers.{answer, accepts};
 

@@ -1,7 +1,7 @@
 -- Laws of balances as the code goes, from the last record to the first.
 -- Assumes nothing.
 use mathlib.Core.Path.{◌≡◌, refl, sym}
-use mathlib.Core.Bool.{Bool, true, false, cond, and_false}
+use mathlib.Core.Bool.{Bool, true, false, cond, and-false}
 use mathlib.Core.List.{List, [], ◌∷◌, ◌++◌}
 use Prim.Native.Nat.{ℕ, suc, ◌+◌, ◌-◌, ◌/◌, ◌^◌, ◌<◌, ◌≤◌}
 use native.Mathlib.Omega.{arith}
@@ -23,7 +23,7 @@ module _ (r : Record) (vault mint : List ℕ) (total : ℕ) where
 
   pub stays_other_mint : total < 2 ^ 64 → same_key (mint_of r) mint ≡ false → capped_sum total (share vault mint r) ≡ total
   unfolding share
-  stays_other_mint fits e = stays fits (rw (e, and_false))
+  stays_other_mint fits e = stays fits (rw (e, and-false))
 
   pub stays_not_counted : total < 2 ^ 64 → is_counted vault r ≡ false → capped_sum total (share vault mint r) ≡ total
   unfolding share

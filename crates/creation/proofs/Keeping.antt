@@ -1,7 +1,7 @@
 -- Laws of the rules that each action keeps by itself, test by test.
 -- Assumes nothing.
 use mathlib.Core.Path.{◌≡◌}
-use mathlib.Core.Bool.{true, false, and_false}
+use mathlib.Core.Bool.{true, false, and-false}
 use mathlib.Core.List.{List}
 use Prim.Native.Nat.{ℕ, ◌<◌, ◌≤◌}
 use borrow.Author.Tests.{eq-eqb, ne_eqb, lt-ltb, le-ltb}
@@ -38,7 +38,7 @@ module _ (a : Action) (amounts : List ℕ) (e : amounts ≡ amounts_of a) (r : i
 
   pub fresh_no_window : window amounts ≤ 0 → keeps Fresh a ≡ false
   unfolding keeps
-  fresh_no_window h = rw (r, ← e, le-ltb _ _ h, and_false)
+  fresh_no_window h = rw (r, ← e, le-ltb _ _ h, and-false)
 
   pub fresh_kept : spent amounts ≡ 0 → 0 < window amounts → keeps Fresh a ≡ eqb (last_reset amounts) 0
   unfolding keeps

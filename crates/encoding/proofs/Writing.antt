@@ -25,9 +25,9 @@ use Rattle.encoding.specs.declared.Size.TheVariants.{Of, NotEncodable}
 use Rattle.encoding.specs.Encoding.{encodable_one, encodable_each, encodable, writing_answer, writing, output_after}
 use Rattle.encoding.specs.Views.{size_if}
 
-pub and_false : (t : Bool) → (t && false) ≡ false
-and_false true = refl
-and_false false = refl
+pub and-false : (t : Bool) → (t && false) ≡ false
+and-false true = refl
+and-false false = refl
 
 pub and_left : (a b : Bool) → (a && b) ≡ true → a ≡ true
 and_left true b h = refl
@@ -79,15 +79,15 @@ module _ (source : List ℕ) (e : Entry) where
 
     pub payload_too_long : most_payload < e.payload.len → size_if (encodable_one source e) size ≡ NotEncodable
     unfolding encodable_one size_if
-    payload_too_long h = rw (lt-leb _ _ h, and_false)
+    payload_too_long h = rw (lt-leb _ _ h, and-false)
 
     pub accounts_past_the_end : within source e.accounts ≡ false → size_if (encodable_one source e) size ≡ NotEncodable
     unfolding encodable_one size_if
-    accounts_past_the_end h = rw (h, and_false)
+    accounts_past_the_end h = rw (h, and-false)
 
     pub payload_past_the_end : within source e.payload ≡ false → size_if (encodable_one source e) size ≡ NotEncodable
     unfolding encodable_one size_if
-    payload_past_the_end h = rw (h, and_false)
+    payload_past_the_end h = rw (h, and-false)
 
   pub size_of_entry : e.accounts.len ≤ most_accounts → e.payload.len ≤ most_payload → within source e.accounts ≡ true
       → within source e.payload ≡ true
@@ -257,7 +257,7 @@ module _ (l : Entries) (source : List ℕ) where
 
   pub writing-breaks : encodable_each source (entries_in l) ≡ false → encodable source l ≡ false
   unfolding encodable
-  writing-breaks h = rw (h, and_false)
+  writing-breaks h = rw (h, and-false)
 
   pub writing-keeps : l.count ≤ most_instructions → encodable_each source (entries_in l) ≡ true → encodable source l ≡ true
   unfolding encodable

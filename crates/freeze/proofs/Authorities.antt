@@ -2,7 +2,7 @@
 -- data has them, they are the same exactly where the bytes are.
 -- Assumes nothing.
 use mathlib.Core.Path.{◌≡◌, refl, sym}
-use mathlib.Core.Bool.{Bool, true, false, ◌&&◌, and_false}
+use mathlib.Core.Bool.{Bool, true, false, ◌&&◌, and-false}
 use mathlib.Core.List.{List, ◌++◌}
 use Prim.Native.Nat.{ℕ, ◌+◌, ◌<◌, ◌≤◌}
 use native.Mathlib.Omega.{arith}
@@ -53,7 +53,7 @@ module _ (p q : List ℕ) (bp : Bytes p) (bq : Bytes q) (at : ℕ) (hq : at + 36
       go false e =
           let short : length p < at + 36 = leb-false _ _ e in
           let other : length (part_at q at 36) ≡ length (part_at p at 36) → ⊥ = rw (part_past p at 36 short, length_part_there q at 36 hq) (λ same. omega arith) in
-          rw (left_short p q (at + 4) (omega arith), and_false) (sym (lengths_differ (part_at p at 36) (part_at q at 36) other))
+          rw (left_short p q (at + 4) (omega arith), and-false) (sym (lengths_differ (part_at p at 36) (part_at q at 36) other))
 
 -- the tags decide first
 module _ (p q : List ℕ) (tag at x y : ℕ) (ex : x ≡ number_at 4 p tag) (ey : y ≡ number_at 4 q tag) where
@@ -79,7 +79,7 @@ module _ (p q : List ℕ) (bp : Bytes p) (bq : Bytes q) where
           rw (key_there p q 32 (omega arith), option_there p q bp bq 72 (omega arith), option_there p q bp bq 129 (omega arith))
       go false e =
           let short : length q < 165 = leb-false _ _ e in
-          rw (right_short p q 133 (omega arith), and_false (eqb (number_at 4 p 129) (number_at 4 q 129)), and_false)
+          rw (right_short p q 133 (omega arith), and-false (eqb (number_at 4 p 129) (number_at 4 q 129)), and-false)
 
   pub owner_changed : same_key_at 32 p q ≡ false → there_and_same ≡ false
   owner_changed e = rw e at authorities_as_keys

@@ -1,7 +1,7 @@
 -- Laws of the freeze, test by test and record by record.
 -- Assumes nothing.
 use mathlib.Core.Path.{◌≡◌, refl, sym, ap, ◌∙◌}
-use mathlib.Core.Bool.{Bool, true, false, not, ◌&&◌, ◌||◌, and_false}
+use mathlib.Core.Bool.{Bool, true, false, not, ◌&&◌, ◌||◌, and-false}
 use mathlib.Core.List.{List, [], ◌∷◌}
 use mathlib.Core.Option.{some}
 use Prim.Native.Nat.{ℕ, suc, ◌/◌, ◌<◌, ◌≤◌, min}
@@ -67,7 +67,7 @@ module _ (p key s row : List ℕ) (i : ℕ) where
 module _ (vault : List ℕ) (listed : List ℕ → Bool) (after : List Record) (r : Record) where
   pub not_listed_frozen : listed (mint_of r) ≡ false → keeps_freeze vault listed after r ≡ true
   unfolding keeps_freeze
-  not_listed_frozen e = rw (e, and_false)
+  not_listed_frozen e = rw (e, and-false)
 
   pub not_counted_frozen : is_counted vault r ≡ false → keeps_freeze vault listed after r ≡ true
   unfolding keeps_freeze
@@ -129,7 +129,7 @@ frozen_either vault f g after (r ∷ l) = rw (frozen_either vault f g after l, o
     shuffle : (a b c d : Bool) → ((a && b) && (c && d)) ≡ ((a && c) && (b && d))
     shuffle false b c d = refl
     shuffle true true c d = refl
-    shuffle true false c d = sym (and_false c)
+    shuffle true false c d = sym (and-false c)
 
 -- no mint is listed
 frozen_none : (vault : List ℕ) (after l : List Record) → all_frozen vault (λ (m : List ℕ). is_among m []) after l ≡ true

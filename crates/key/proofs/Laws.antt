@@ -1,7 +1,7 @@
 -- The laws of comparing keys, and of the key of a part.
 -- Assumes nothing.
 use mathlib.Core.Path.{◌≡◌, refl, sym, ap₂, ◌∙◌}
-use mathlib.Core.Bool.{Bool, true, false, ◌&&◌, and_false, and-eq-true_iff}
+use mathlib.Core.Bool.{Bool, true, false, ◌&&◌, and-false, and-eq-true_iff}
 use mathlib.Core.List.{List, [], ◌∷◌}
 use Prim.Native.Nat.{ℕ, ◌≤◌}
 use native.Mathlib.Omega.{arith}
@@ -20,7 +20,7 @@ unfolding same_bytes
 lengths_differ [] [] h = absurd (h refl)
 lengths_differ [] (y ∷ b) h = refl
 lengths_differ (x ∷ a) [] h = refl
-lengths_differ (x ∷ a) (y ∷ b) h = rw (lengths_differ a b (λ e. h (omega arith))) (and_false (eqb x y))
+lengths_differ (x ∷ a) (y ∷ b) h = rw (lengths_differ a b (λ e. h (omega arith))) (and-false (eqb x y))
 
 pub left_no_key : (a b : List ℕ) → (length a ≡ 32 → ⊥) → same_key a b ≡ false
 unfolding same_key
@@ -28,7 +28,7 @@ left_no_key a b h = rw (ne_eqb _ _ h)
 
 pub right_no_key : (a b : List ℕ) → (length b ≡ 32 → ⊥) → same_key a b ≡ false
 unfolding same_key
-right_no_key a b h = rw (ne_eqb _ _ h, and_false)
+right_no_key a b h = rw (ne_eqb _ _ h, and-false)
 
 -- where one is a key the bytes decide
 pub key_compared : (a b : List ℕ) → length b ≡ 32 → same_key a b ≡ same_bytes a b

@@ -1,4 +1,6 @@
 // Keys of 32 bytes. Every comparison of keys goes through `same_key`.
+#![tactic(auto)]
+
 ghost use Rattle.std.specs.Prelude.{◌≡◌};
 ghost use Rattle.key.specs.Key.{same_key};
 ghost use Rattle.key.specs.Views.{key_from};

@@ -2,7 +2,7 @@
 -- Assumes nothing.
 use Prim.Native.Nat.{ℕ, ◌+◌, ◌<◌, ◌≤◌}
 use mathlib.Core.Path.{◌≡◌}
-use mathlib.Core.Bool.{true, false, and_false}
+use mathlib.Core.Bool.{true, false, and-false}
 use mathlib.Core.List.{List}
 use borrow.Author.Tests.{eq-eqb, ne_eqb, lt-ltb, le-ltb}
 use lib.ListN.{length, set}
@@ -18,11 +18,11 @@ module _ (l : Keys) (key : List ℕ) where
 
   pub with_no_key : (length key ≡ 32 → ⊥) → with_key l key ≡ l
   unfolding with_key
-  with_no_key h = rw (ne_eqb _ _ h, and_false)
+  with_no_key h = rw (ne_eqb _ _ h, and-false)
 
   pub with_repeat : is_among key (keys_in l) ≡ true → with_key l key ≡ l
   unfolding with_key
-  with_repeat h = rw (h, and_false)
+  with_repeat h = rw (h, and-false)
 
   pub with_new : l.count < 16 → length key ≡ 32 → is_among key (keys_in l) ≡ false
       → with_key l key ≡ record { list = set l.list l.count (key_from key); count = l.count + 1 }

@@ -1,4 +1,5 @@
 // Lists of at most sixteen keys without repeats: filling one, and searching it.
+#![tactic(auto)]
 ghost use Rattle.std.specs.Prelude.{◌≡◌, not, ◌&&◌, [], ◌+◌, min, ltb};
 ghost use Rattle.key.specs.Key.{same_key};
 ghost use Rattle.keys.specs.Views.{most_keys, is_among, keys_in, keys_of, with_key};

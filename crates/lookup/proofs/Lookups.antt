@@ -1,7 +1,7 @@
 -- Laws of indexes: the key at one, whether all are below a count, and what resolving answers.
 -- Assumes nothing.
 use mathlib.Core.Path.{◌≡◌, ap}
-use mathlib.Core.Bool.{Bool, true, false, not, ◌&&◌, and_false}
+use mathlib.Core.Bool.{Bool, true, false, not, ◌&&◌, and-false}
 use mathlib.Core.List.{List, [], ◌∷◌, map}
 use Prim.Native.Nat.{ℕ, zero, suc, ◌+◌, ◌*◌, ◌/◌, ◌<◌, ◌≤◌}
 use native.Mathlib.Omega.{arith}
@@ -81,11 +81,11 @@ module _ (count : ℕ) (source : List ℕ) (e : Entry) where
 
   pub payload_past_the_end : within source e.payload ≡ false → resolvable count source e ≡ false
   unfolding resolvable
-  payload_past_the_end h = rw (h, and_false)
+  payload_past_the_end h = rw (h, and-false)
 
   pub program_past_the_count : count ≤ e.program → resolvable count source e ≡ false
   unfolding resolvable
-  program_past_the_count h = rw (le-ltb _ _ h, and_false)
+  program_past_the_count h = rw (le-ltb _ _ h, and-false)
 
   pub accounts_decide : within source e.accounts ≡ true → within source e.payload ≡ true → e.program < count
       → resolvable count source e ≡ all_below count (range_bytes source e.accounts)

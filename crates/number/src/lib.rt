@@ -1,5 +1,7 @@
 // Numbers of 2, 4 and 8 bytes in a lent slice, the lowest byte first, and the two sums that stop
 // at an end of their range. Any place and any slice get an answer.
+#![tactic(auto)]
+
 ghost use Rattle.std.specs.Prelude.{◌≡◌, ◌+◌, ◌≤◌, leb, length, take, drop};
 ghost use Rattle.number.specs.Number.{number, number_at, with_number_at, capped_sum, floored_difference};
 

@@ -1,4 +1,6 @@
 // A part of lent bytes, by its place and its length. Any place and length get an answer.
+#![tactic(auto)]
+
 ghost use Rattle.std.specs.Prelude.{◌≡◌};
 ghost use Rattle.part.specs.Part.{part_at};
 

@@ -1,7 +1,7 @@
 -- Laws of cutting: when the first action is there, and what the header at a place answers.
 -- Assumes nothing.
 use mathlib.Core.Path.{◌≡◌, refl, sym, ◌∙◌, subst}
-use mathlib.Core.Bool.{Bool, true, false, cond, ◌&&◌, and_false, and-eq-true_iff}
+use mathlib.Core.Bool.{Bool, true, false, cond, ◌&&◌, and-false, and-eq-true_iff}
 use mathlib.Core.List.{List, [], ◌∷◌}
 use Prim.Native.Nat.{ℕ, zero, suc, ◌+◌, ◌<◌, ◌≤◌}
 use native.Mathlib.Nat.{add-zero, not-suc-le-zero}
@@ -42,11 +42,11 @@ first_short s short = rw (lt-leb _ _ short)
 
 first_unknown : (s : List ℕ) → data_length (get_or s 0 0) ≤ 0 → first s ≡ refused (answer action_buffer_invalid)
 unfolding first
-first_unknown s unknown = rw (le-ltb _ _ unknown, and_false)
+first_unknown s unknown = rw (le-ltb _ _ unknown, and-false)
 
 first_past : (s : List ℕ) → length s < 11 + header_data_length s → first s ≡ refused (answer action_buffer_invalid)
 unfolding first
-first_past s past = rw (lt-leb _ _ past, and_false)
+first_past s past = rw (lt-leb _ _ past, and-false)
 
 -- ---- the header at a place
 

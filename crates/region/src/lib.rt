@@ -1,4 +1,5 @@
 // The action region: reading headers, and cutting it into a row of its actions. Any bytes get an answer.
+#![tactic(auto)]
 pub mod parse;
 
 use action::ActionView;

@@ -1,5 +1,6 @@
 // Replays a session: standard input is a region and calls on it, and each gets a line as soon as its
 // bytes are there. Memory is fixed, whatever the input's length.
+#![tactic(auto)]
 ghost use Rattle.std.specs.Prelude.{◌≤◌, length};
 
 use answer::Answer;

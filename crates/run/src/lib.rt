@@ -1,6 +1,7 @@
 // A replay, run as its input comes: a region and calls on it, fed in pieces of any length. Each time it
 // says what happened. The memory is lent and fixed, whatever the input's length: one part holds the
 // opening, in which the region is judged where it lies, the other the call that is coming.
+#![tactic(auto)]
 ghost use Rattle.std.specs.Prelude.{◌+◌, ◌-◌, ◌≤◌, min, ◌≡◌, cond, length, take};
 ghost use Rattle.std.proofs.Math.Seq.{paste};
 ghost use Rattle.run.specs.declared.Stage.TheVariants.{Opening, Calls};

@@ -1,7 +1,7 @@
 -- Laws of cutting: when the first record is there, what the read at a place answers, and what the count asks.
 -- Assumes nothing.
 use mathlib.Core.Path.{◌≡◌, refl, sym, ◌∙◌, subst}
-use mathlib.Core.Bool.{Bool, ◌&&◌, and_false, and-eq-true_iff}
+use mathlib.Core.Bool.{Bool, ◌&&◌, and-false, and-eq-true_iff}
 use mathlib.Core.List.{List, [], ◌∷◌}
 use Prim.Native.Nat.{ℕ, suc, ◌+◌, ◌<◌, ◌≤◌}
 use native.Mathlib.Nat.{not-suc-le-zero}
@@ -43,7 +43,7 @@ first_short s short = rw (lt-leb _ _ short)
 
 first_past : (s : List ℕ) → length s < 68 + record_data_length s → first_record s ≡ refused (answer bad_table)
 unfolding first_record
-first_past s past = rw (lt-leb _ _ past, and_false)
+first_past s past = rw (lt-leb _ _ past, and-false)
 
 -- ---- the read at a place
 
@@ -159,7 +159,7 @@ module _ (s : List ℕ) where
 
     pub table_too_many : 64 < counted → cut_table s ≡ refused (answer bad_table)
     unfolding cut_table
-    table_too_many h = rw (count_there, lt-leb _ _ h, and_false)
+    table_too_many h = rw (count_there, lt-leb _ _ h, and-false)
 
     pub table_counted : counted ≤ 64 → cut_table s ≡ cut_records counted (drop 2 s)
     unfolding cut_table

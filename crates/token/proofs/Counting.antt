@@ -1,7 +1,7 @@
 -- Laws of token accounts, test by test as the code goes.
 -- Assumes nothing.
 use mathlib.Core.Path.{◌≡◌, refl}
-use mathlib.Core.Bool.{Bool, true, false, and-true, and_false, or-false}
+use mathlib.Core.Bool.{Bool, true, false, and-true, and-false, or-false}
 use mathlib.Core.List.{List}
 use Prim.Native.Nat.{ℕ, ◌-◌, ◌<◌, ◌≤◌, min}
 use native.Mathlib.Omega.{arith}
@@ -24,7 +24,7 @@ module _ (p : List ℕ) where
     not_165 = ne_eqb (length p) 165 (λ e. omega arith)
 
     pub of_355 : length p ≡ 355 → is_token2022_account p ≡ false
-    of_355 e = rw (not_165, eq-eqb (length p) 355 e, and_false)
+    of_355 e = rw (not_165, eq-eqb (length p) 355 e, and-false)
 
     pub longer : (length p ≡ 355 → ⊥) → is_token2022_account p ≡ eqb (get_or p 165 0) 2
     longer h = rw (not_165, lt-ltb 165 (length p) long, ne_eqb (length p) 355 h) (and-true _)
@@ -54,7 +54,7 @@ module _ (r : Record) where
   pub too_short : length r.payload < 165 → is_token_account r ≡ false
   unfolding is_token_account
   too_short short =
-      rw (ne_eqb (length r.payload) 165 (λ e. omega arith), le-ltb 165 (length r.payload) (omega arith), and_false (same_key r.owner spl_token), and_false (same_key r.owner token2022))
+      rw (ne_eqb (length r.payload) 165 (λ e. omega arith), le-ltb 165 (length r.payload) (omega arith), and-false (same_key r.owner spl_token), and-false (same_key r.owner token2022))
 
   module _ (vault : List ℕ) where
     pub no_holder : length r.payload < 64 → same_key (holder_of r) vault ≡ false

@@ -1,6 +1,7 @@
 // Answers recorded cases. Standard input is a row of cases: kind (1 byte), payload length (4 bytes,
 // the lowest first) and payload; each gets one line. A case that is cut short, or whose payload is
 // too long, ends the run.
+#![tactic(auto)]
 mod accounts;
 mod actions;
 mod calls;

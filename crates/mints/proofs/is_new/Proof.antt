@@ -1,7 +1,7 @@
 -- `mints::is_new` meets its contract, test by test.
 -- Assumes nothing.
 use mathlib.Core.Path.{sym, ap, ◌∙◌}
-use mathlib.Core.Bool.{not, and_false}
+use mathlib.Core.Bool.{not, and-false}
 use native.Mathlib.Omega.{arith}
 use borrow.Author.Rules.{rules}
 use borrow.Author.Tests.{not-true, not-false, lt-ltb, le-ltb, eq-eqb, ne_eqb}
@@ -15,10 +15,10 @@ returns : tie.Need-returns
 returns c = rw (sym c.before.is-token.ensures ∙ not-true _ c.if1.true)
 
 returns-2 : tie.Need-returns-2
-returns-2 c = rw (le-ltb c.before.before.before.before.args.count 16 c.if2.true, and_false)
+returns-2 c = rw (le-ltb c.before.before.before.before.args.count 16 c.if2.true, and-false)
 
 returns-3 : tie.Need-returns-3
-returns-3 c = rw (ne_eqb _ 32 c.if3.true, and_false, and_false)
+returns-3 c = rw (ne_eqb _ 32 c.if3.true, and-false, and-false)
 
 is-found-requires : tie.Need-is-found-requires
 is-found-requires c κs = search rules

@@ -2,7 +2,7 @@
 -- Assumes nothing.
 use mathlib.Core.Path.{sym, ◌∙◌}
 use borrow.Author.Tests.{eq-eqb, ne_eqb}
-use mathlib.Core.Bool.{and_false}
+use mathlib.Core.Bool.{and-false}
 use borrow.Author.Rules.{rules}
 use Rattle.programs.proofs.has_key.Statement.{statement}
 use Rattle.programs.proofs.has_key.Tie as tie
@@ -14,7 +14,7 @@ is-expired-requires : tie.Need-is-expired-requires
 is-expired-requires c κs = search rules
 
 returns-2 : tie.Need-returns-2
-returns-2 c = rw (sym c.before.is-expired.ensures ∙ c.if2.true, and_false)
+returns-2 c = rw (sym c.before.is-expired.ensures ∙ c.if2.true, and-false)
 
 key-of-requires : tie.Need-key-of-requires
 key-of-requires c κs = search rules
