@@ -10,7 +10,7 @@ use part::part_at;
 pub const RECORD_HEADER_SIZE: usize = 68;
 
 // A record of a table: where it starts and how long its data is.
-#[derive(Drop)]
+#[derive(Clone, Copy)]
 pub struct RecordView {
     pub at: usize,
     pub len: usize,

@@ -1,6 +1,7 @@
 // One action: the codes of the types and their data lengths, where an action lies, and the fields of its
 // data. Any bytes get an answer.
 #![tactic(auto)]
+
 pub mod fields;
 
 ghost use Rattle.std.specs.Prelude.{◌≡◌};
@@ -23,7 +24,7 @@ pub const PROGRAM_WHITELIST: u8 = 10;
 pub const PROGRAM_BLACKLIST: u8 = 11;
 
 // An action of a region: its type's code, its expiry, and where its data starts and how long it is.
-#[derive(Drop)]
+#[derive(Clone, Copy)]
 pub struct ActionView {
     pub kind: u8,
     pub expires: u64,

@@ -38,7 +38,7 @@ pub const BAD_REGION: u32 = 15;
 
 pub const NOT_ENCODABLE: u32 = 16;
 
-#[derive(Drop)]
+#[derive(Clone, Copy)]
 pub struct Answer {
     pub number: u32,
 }

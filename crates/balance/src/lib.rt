@@ -15,7 +15,7 @@ use keys::{Keys, MAX_KEYS};
 use token::{amount_of, is_held_by, is_token_account, mint_of};
 
 // At most sixteen sums, of mints or of actions; zeros past the last.
-#[derive(Drop)]
+#[derive(Clone, Copy)]
 pub struct Sums {
     pub list: [u64; 16],
 }

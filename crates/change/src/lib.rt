@@ -9,7 +9,7 @@ use action::fields::mint_length;
 
 // What an accepted call writes into an action: nothing, what is left of a limit, or what is spent in
 // a window and the slot that the window began at.
-#[derive(Drop)]
+#[derive(Clone, Copy)]
 pub enum Change {
     Nothing,
     Remaining(u64),

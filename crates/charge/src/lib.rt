@@ -17,7 +17,7 @@ use limit::{change_of, rule_answer};
 use row::{action_in, how_many};
 
 // The two classes of rules.
-#[derive(Drop)]
+#[derive(Clone, Copy)]
 pub enum Class {
     Sol,
     Tokens,

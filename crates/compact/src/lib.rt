@@ -10,13 +10,13 @@ use answer::{ACCEPTED, Answer, INVALID_INSTRUCTION_DATA};
 
 pub const MAX_COMPACT_INSTRUCTIONS: usize = 16;
 
-#[derive(Drop)]
+#[derive(Clone, Copy)]
 pub struct Range {
     pub start: usize,
     pub len: usize,
 }
 
-#[derive(Drop)]
+#[derive(Clone, Copy)]
 pub struct Entry {
     pub program: u8,
     pub accounts: Range,
@@ -24,13 +24,13 @@ pub struct Entry {
 }
 
 // At most sixteen entries; past the count stand entries of zeros.
-#[derive(Drop)]
+#[derive(Clone, Copy)]
 pub struct Entries {
     pub list: [Entry; 16],
     pub count: usize,
 }
 
-#[derive(Drop)]
+#[derive(Clone, Copy)]
 pub struct ParsedInstructions {
     pub answer: Answer,
     pub entries: Entries,
@@ -38,7 +38,7 @@ pub struct ParsedInstructions {
 }
 
 // The program index of each instruction; zeros past the count, and on a refusal everywhere.
-#[derive(Drop)]
+#[derive(Clone, Copy)]
 pub struct Programs {
     pub answer: Answer,
     pub list: [usize; 16],
@@ -46,7 +46,7 @@ pub struct Programs {
 }
 
 // What stands at a place: an instruction, with the place after it, or too few bytes for one.
-#[derive(Drop)]
+#[derive(Clone, Copy)]
 enum Head {
     At(Entry, usize),
     Short,

@@ -22,7 +22,7 @@ use region::parse::parse_actions;
 use row::{action_in, actions_in, how_many};
 
 // What each action has to keep by itself.
-#[derive(Drop)]
+#[derive(Clone, Copy)]
 pub enum Rule {
     Length,
     Fresh,

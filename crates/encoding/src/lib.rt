@@ -17,14 +17,14 @@ pub const MAX_ACCOUNTS: usize = 255;
 
 pub const MAX_PAYLOAD: usize = 65535;
 
-#[derive(Drop)]
+#[derive(Clone, Copy)]
 pub struct Written {
     pub answer: Answer,
     pub written: usize,
 }
 
 // How many bytes an encoding takes, where the limits are kept.
-#[derive(Drop)]
+#[derive(Clone, Copy)]
 enum Size {
     Of(usize),
     NotEncodable,

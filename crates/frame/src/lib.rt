@@ -28,14 +28,14 @@ const VAULT_PLACE: usize = 44;
 const VAULT_LENGTH: usize = 32;
 
 // Where a part lies in the bytes that it was cut from.
-#[derive(Drop)]
+#[derive(Clone, Copy)]
 pub struct Part {
     pub at: usize,
     pub len: usize,
 }
 
 // A call as it lies in some bytes: its four numbers, and where its vault key, tables and instructions lie.
-#[derive(Drop)]
+#[derive(Clone, Copy)]
 pub struct CallView {
     pub slot: u64,
     pub lamports_before: u64,
@@ -48,7 +48,7 @@ pub struct CallView {
 }
 
 // What some bytes begin with: a whole call, a call whose parts are too long, or too few bytes to tell.
-#[derive(Drop)]
+#[derive(Clone, Copy)]
 pub enum Front {
     Whole(CallView),
     Long,

@@ -11,7 +11,7 @@ use part::part_at;
 
 // What some bytes come to: more of them are needed, a call is too long, a region of some length was
 // answered, or a call was.
-#[derive(Drop)]
+#[derive(Clone, Copy)]
 pub enum Heard {
     Waiting,
     TooLong,

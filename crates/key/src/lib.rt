@@ -7,7 +7,7 @@ ghost use Rattle.key.specs.Views.{key_from};
 
 pub const KEY_LENGTH: usize = 32;
 
-#[derive(Drop)]
+#[derive(Clone, Copy)]
 pub struct Key {
     pub bytes: [u8; 32],
 }

@@ -1,5 +1,6 @@
 // Lists of at most sixteen keys without repeats: filling one, and searching it.
 #![tactic(auto)]
+
 ghost use Rattle.std.specs.Prelude.{◌≡◌, not, ◌&&◌, [], ◌+◌, min, ltb};
 ghost use Rattle.key.specs.Key.{same_key};
 ghost use Rattle.keys.specs.Views.{most_keys, is_among, keys_in, keys_of, with_key};
@@ -9,7 +10,7 @@ use key::{KEY_LENGTH, Key};
 pub const MAX_KEYS: usize = 16;
 
 // At most sixteen keys, without repeats; past the count stand keys of zeros.
-#[derive(Drop)]
+#[derive(Clone, Copy)]
 pub struct Keys {
     pub list: [Key; 16],
     pub count: usize,

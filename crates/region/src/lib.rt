@@ -10,7 +10,7 @@ pub const ACTION_HEADER_SIZE: usize = 11;
 pub const MAX_ACTIONS: usize = 16;
 
 // What reading a header answers.
-#[derive(Drop)]
+#[derive(Clone, Copy)]
 pub enum HeaderRead {
     View(ActionView),
     Refused(Answer),
@@ -18,7 +18,7 @@ pub enum HeaderRead {
 
 // A region's actions in order, the four numbers of a view for each; zeros past the count, and on a
 // refusal everywhere. A row of numbers is lent where views would be copied.
-#[derive(Drop)]
+#[derive(Clone, Copy)]
 pub struct ParsedActions {
     pub answer: Answer,
     pub list: [u64; 64],

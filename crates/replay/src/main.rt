@@ -36,7 +36,7 @@ fn print_said(said: Said) {
 }
 
 // Where what is left of a piece starts and ends.
-#[derive(Drop)]
+#[derive(Clone, Copy)]
 struct Left {
     at: usize,
     end: usize,

@@ -17,7 +17,7 @@ pub const MAX_OPENING: usize = 65537;
 pub const MAX_CALL: usize = 60076;
 
 // What is coming: the opening, a call, or nothing any more.
-#[derive(Drop)]
+#[derive(Clone, Copy)]
 pub enum Stage {
     Opening,
     Calls,
@@ -26,7 +26,7 @@ pub enum Stage {
 
 // Where a run stands: how much is there of what is coming, how long the region is, and how many calls
 // were answered and accepted.
-#[derive(Drop)]
+#[derive(Clone, Copy)]
 pub struct State {
     stage: Stage,
     got: usize,
@@ -37,7 +37,7 @@ pub struct State {
 
 // What happened: more is needed, the region was answered, a call was answered (which one, counted from
 // one), the input is cut, or the run ended with so many calls accepted.
-#[derive(Drop)]
+#[derive(Clone, Copy)]
 pub enum Said {
     More,
     Region(Answer),
@@ -48,7 +48,7 @@ pub enum Said {
 
 // How many bytes of a piece were used, the run afterwards, and what happened. The rest of the piece is
 // to be fed again; where more is needed there is none.
-#[derive(Drop)]
+#[derive(Clone, Copy)]
 pub struct Fed {
     pub used: usize,
     pub state: State,

@@ -16,7 +16,7 @@ pub const MAX_RECORDS: usize = 64;
 
 // A table's records in order, two numbers for each: where it starts and how long its data is; zeros
 // past the count, and on a refusal everywhere. A row of numbers is lent where views would be copied.
-#[derive(Drop)]
+#[derive(Clone, Copy)]
 pub struct Places {
     pub answer: Answer,
     pub list: [usize; 128],
@@ -24,7 +24,7 @@ pub struct Places {
 }
 
 // What reading a record answers.
-#[derive(Drop)]
+#[derive(Clone, Copy)]
 enum RecordRead {
     View(RecordView),
     Refused(Answer),

@@ -15,14 +15,14 @@ use libc::STDIN_FILENO;
 const HEAD_LENGTH: usize = 5;
 
 // What a case begins with: its kind and its payload's length.
-#[derive(Drop)]
+#[derive(Clone, Copy)]
 struct Head {
     kind: u8,
     len: usize,
 }
 
 // What stands where a case may begin: its head, or the input's end.
-#[derive(Drop)]
+#[derive(Clone, Copy)]
 enum Next {
     Case(Head),
     End,
