@@ -1,5 +1,6 @@
 // What an accepted call changes in an action, written where the action lies.
 #![tactic(auto)]
+
 ghost use Rattle.std.specs.Prelude.{◌≡◌};
 ghost use Rattle.action.specs.Views.{action_at, written_at};
 ghost use Rattle.change.specs.Changed.{with_spent, changed_amounts, changed};

@@ -1,5 +1,6 @@
 // What creation asks of a region's actions, and the stored form, over the actions' views.
 #![tactic(auto)]
+
 ghost use Rattle.std.specs.Prelude.{◌≡◌, ◌&&◌, ◌<◌, eqb, drop};
 ghost use Rattle.key.specs.Key.{same_key};
 ghost use Rattle.action.specs.Fields.{is_token, key_of};

@@ -1,5 +1,6 @@
 // The mints that a region's token actions list.
 #![tactic(auto)]
+
 ghost use Rattle.std.specs.Prelude.{◌≡◌, not, ◌&&◌, eqb, ltb, length};
 ghost use Rattle.key.specs.Key.{same_key, key_length};
 ghost use Rattle.keys.specs.Views.{most_keys};

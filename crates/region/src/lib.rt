@@ -1,5 +1,6 @@
 // The action region: reading headers, and cutting it into a row of its actions. Any bytes get an answer.
 #![tactic(auto)]
+
 pub mod parse;
 
 use action::ActionView;

@@ -1,6 +1,7 @@
 // Actions as a row of numbers, four for each: its type's code, its expiry, and where its data starts
 // and how long it is. Any row has an answer; what is left over after the last four is passed over.
 #![tactic(auto)]
+
 ghost use Rattle.std.specs.Prelude.{◌≡◌, ◌*◌, length, get_or, take};
 ghost use Rattle.action.specs.Views.{zero_action_view};
 ghost use Rattle.row.specs.Views.{action_views};
