@@ -58,8 +58,9 @@ pub each_means : (before : List ℕ) (is : List Instruction) (rest : List ℕ) �
 unfolding entries_from
 each_means before [] rest = refl
 each_means before (i ∷ is) rest =
-    ap₂ ◌∷◌ (rw (here before i is rest) (one_means before i (encode_each is ++ rest)))
-    (rw (after before i is rest, ← (length-append before (encode_one i))) (each_means (before ++ encode_one i) is rest))
+    ap₂ ◌∷◌ (ap (λ (s : List ℕ). meant s (entry_at (length before) i)) (here before i is rest) ∙ one_means before i (encode_each is ++ rest))
+    (ap (λ (s : List ℕ). map (meant s) (entries_from (length before + length (encode_one i)) is)) (after before i is rest)
+    ∙ rw (← (length-append before (encode_one i))) (each_means (before ++ encode_one i) is rest))
 
 -- the entries of a list whose encoding lies at the front of some bytes
 module _ (is : List Instruction) (rest : List ℕ) where

@@ -1,6 +1,7 @@
 // Compact instructions: reading a list from lent bytes. An entry names its accounts and its data as
 // ranges of the lent bytes; nothing is copied.
 #![tactic(auto)]
+
 ghost use Rattle.std.specs.Prelude.{◌≡◌, [], ◌≤◌, length, take, drop};
 ghost use Rattle.compact.specs.Compact.{decode_one};
 ghost use Rattle.compact.specs.Entries.{within};
