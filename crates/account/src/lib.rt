@@ -1,6 +1,7 @@
 // A record of an account table: the parts of the one that a view names, each as it lies in the table, and
 // rows of views. Any bytes get an answer.
 #![tactic(auto)]
+
 ghost use Rattle.std.specs.Prelude.{◌≡◌, ◌*◌, get_or, take, drop};
 ghost use Rattle.account.specs.Views.{record_at, record_views, zero_record_view};
 

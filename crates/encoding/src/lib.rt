@@ -1,5 +1,6 @@
 // Writing compact instructions: a list, as entries over a source, into a lent output.
 #![tactic(auto)]
+
 ghost use Rattle.std.specs.Prelude.{◌≡◌, true, ◌+◌, ◌≤◌, length};
 ghost use Rattle.std.proofs.lemmas.List.Edits.{sets};
 ghost use Rattle.answer.specs.Numbers.{answer};
