@@ -9,18 +9,18 @@ use Rattle.part.proofs.Laws.{length_part_there}
 use Rattle.encoding.proofs.Writing.{part_turn}
 use Rattle.encoding.proofs.put_part.Goals as goal
 
--- the part is all there
-long : (c : tie.After-part-at invariant-loop decreases-loop) → length c.part_at.result.now ≡ c.before.before.before.args.range.len
-long c = rw c.part_at.ensures (length_part_there _ _ _ c.before.before.before.requires.0)
-
 pub loop-i-init : goal.loop-i-init
 loop-i-init c = (omega arith, refl, rw add-zero)
 
 pub overflow_add-out : goal.overflow_add-out
-overflow_add-out c = omega (arith, long ⟪After-part_at⟫)
+overflow_add-out c =
+    let long : length c.part_at-bytes.result.now ≡ c.args.range.len = rw c.part_at-bytes.ensures (length_part_there _ _ _ c.requires.0) in
+    omega (arith, long)
 
 pub bounds-out-at : goal.bounds-out-at
-bounds-out-at c = omega (arith, long ⟪After-part_at⟫)
+bounds-out-at c =
+    let long : length c.part_at-bytes.result.now ≡ c.args.range.len = rw c.part_at-bytes.ensures (length_part_there _ _ _ c.requires.0) in
+    omega (arith, long)
 
 pub loop-i-preserved : goal.loop-i-preserved
 loop-i-preserved c =
@@ -29,12 +29,15 @@ loop-i-preserved c =
     (omega arith, simp length-set c.loop-i.invariant.1, sym turn ∙ c.loop-i.invariant.2)
 
 pub overflow_add-result : goal.overflow_add-result
-overflow_add-result c = omega (arith, long ⟪After-part_at⟫)
+overflow_add-result c =
+    let long : length c.part_at-bytes.result.now ≡ c.args.range.len = rw c.part_at-bytes.ensures (length_part_there _ _ _ c.requires.0) in
+    omega (arith, long)
 
 pub shape_of-out : goal.shape_of-out
 shape_of-out c = c.loop-i.invariant.1
 
 pub returns : goal.returns
 returns c =
+    let long : length c.part_at-bytes.result.now ≡ c.args.range.len = rw c.part_at-bytes.ensures (length_part_there _ _ _ c.requires.0) in
     let none = drop_of_length-le c.part_at-bytes.result.now {i = c.loop-i.i} (omega arith) in
-    (rw (long ⟪After-part_at⟫), rw (none, c.part_at-bytes.ensures) at c.loop-i.invariant.2)
+    (rw long, rw (none, c.part_at-bytes.ensures) at c.loop-i.invariant.2)

@@ -14,7 +14,7 @@ loop-i-init c = (omega arith, omega arith, sizing_starts _ _)
 pub returns-in_default : goal.returns-in_default
 unfolding most_instructions
 returns-in_default c =
-    let entries = c.args.self in
+    let entries = c.args.entries in
     let long : length entries.list ≡ 16 = c.well_formed.0.1.1.0.1.0.1 in
     let stops = sizing_stops _ entries c.loop-i.i _ (omega arith) (omega arith) _ (sym c.size_of_one.ensures ∙ c.in_default.is) in
     sym (sym c.loop-i.invariant.2 ∙ stops)
@@ -27,7 +27,7 @@ overflow_add-size c =
 pub loop-i-preserved : goal.loop-i-preserved
 unfolding most_instructions most_accounts most_payload
 loop-i-preserved c =
-    let entries = c.args.self in
+    let entries = c.args.entries in
     let i = c.loop-i.i in
     let long : length entries.list ≡ 16 = c.well_formed.0.1.1.0.1.0.1 in
     let size = sym c.size_of_one.ensures ∙ c.in-Of.is in (
@@ -38,5 +38,13 @@ loop-i-preserved c =
 
 pub returns : goal.returns
 returns c =
-    let entries = c.args.self in
+    let entries = c.args.entries in
     sym (sizing_ends _ _) ∙ rw (entry_none entries c.loop-i.i (omega arith)) at c.loop-i.invariant.2
+
+pub offset_bounds-entries-i : goal.offset_bounds-entries-i
+unfolding most_instructions
+offset_bounds-entries-i c = omega arith
+
+pub bounds-entries-i : goal.bounds-entries-i
+unfolding most_instructions
+bounds-entries-i c = omega arith

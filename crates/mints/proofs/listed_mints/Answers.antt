@@ -4,7 +4,6 @@
 use Prim.Native.Nat.{◌+◌, ◌<◌}
 use mathlib.Core.Path.{◌≡◌, sym, ap, ◌∙◌}
 use mathlib.Core.Bool.{◌&&◌}
-use mathlib.Core.Logic.{⊎_elim}
 use native.Mathlib.Numerals.{add-one}
 use native.Mathlib.Omega.{arith}
 use lib.Dec.{ltb}
@@ -18,23 +17,7 @@ use Rattle.action.specs.Views.{action_at}
 use Rattle.mints.specs.Views.{with_mint}
 use Rattle.mints.proofs.Listing.{none_filled, filled_next, mint_new, mint_room, mint_same, mints_step, mints_end, mints_none}
 use Rattle.mints.proofs.listed_mints.Goals as goal
-
--- where the search goes on there is a next key
-on : (c : tie.Then1 invariant-loop2 decreases-loop2 invariant-loop decreases-loop) → c.before.before.loop2.at + 1 < 16
-on c =
-    let at_search = c.before.before in
-    let filled = at_search.before.before.before.before.before.loop.invariant.2 in
-    search_room at_search.loop2.invariant filled.places (omega arith) (sym c.before.goes_on.ensures ∙ c.if1.true)
-
--- where it ended it tells whether the mint is listed
-looked : (c : tie.Else1 invariant-loop2 decreases-loop2 invariant-loop decreases-loop)
-    → is_among c.before.before.before.before.key_of.result.now (keys_in c.before.before.before.before.before.before.before.loop.mints)
-    ≡ (ltb 0 c.before.before.before.before.before.before.before.loop.mints.count
-    && same_key c.before.before.loop2.k.bytes c.before.before.before.before.key_of.result.now)
-looked c =
-    let at_search = c.before.before in
-    let filled = at_search.before.before.before.before.before.loop.invariant.2 in
-    search_ended at_search.loop2.invariant filled.places (omega arith) (sym c.before.goes_on.ensures ∙ c.if1.false)
+use Rattle.mints.proofs.listed_mints.Goals.{then-is_new, else-is_new}
 
 pub loop-i-init : goal.loop-i-init
 loop-i-init c = (omega arith, c.how_many-n.ensures, rw c.none-mints.ensures none_filled, rw c.none-mints.ensures (sym (mints_none _)))
@@ -43,16 +26,28 @@ pub loop-k-init : goal.loop-k-init
 loop-k-init c = search_starts _ _ _ _
 
 pub overflow_add-at : goal.overflow_add-at
-overflow_add-at c = omega (arith, on ⟪Then1⟫)
+overflow_add-at c =
+    let on : c.loop-k.at + 1 < 16 = let filled = c.loop-i.invariant.2 in
+    search_room c.loop-k.invariant filled.places (omega arith) (sym c.goes_on.ensures ∙ c.loop-k-test.true) in
+    omega (arith, on)
 
 pub offset_bounds-mints-at : goal.offset_bounds-mints-at
-offset_bounds-mints-at c = omega (arith, on ⟪Then1⟫)
+offset_bounds-mints-at c =
+    let on : c.loop-k.at + 1 < 16 = let filled = c.loop-i.invariant.2 in
+    search_room c.loop-k.invariant filled.places (omega arith) (sym c.goes_on.ensures ∙ c.loop-k-test.true) in
+    omega (arith, on)
 
 pub bounds-mints-at : goal.bounds-mints-at
-bounds-mints-at c = omega (arith, on ⟪Then1⟫)
+bounds-mints-at c =
+    let on : c.loop-k.at + 1 < 16 = let filled = c.loop-i.invariant.2 in
+    search_room c.loop-k.invariant filled.places (omega arith) (sym c.goes_on.ensures ∙ c.loop-k-test.true) in
+    omega (arith, on)
 
 pub loop-k-smaller : goal.loop-k-smaller
-loop-k-smaller c = omega (arith, on ⟪Then1⟫)
+loop-k-smaller c =
+    let on : c.loop-k.at + 1 < 16 = let filled = c.loop-i.invariant.2 in
+    search_room c.loop-k.invariant filled.places (omega arith) (sym c.goes_on.ensures ∙ c.loop-k-test.true) in
+    omega (arith, on)
 
 pub loop-k-preserved : goal.loop-k-preserved
 loop-k-preserved c =
@@ -62,12 +57,16 @@ loop-k-preserved c =
 pub bounds-mints-count : goal.bounds-mints-count
 unfolding action_at
 bounds-mints-count c =
-    mint_room c.loop-i.mints (action_at c.args.region.now c.action_in-view.result) _ c.key_of-mint.ensures _ (looked ⟪Else1⟫)
+    let looked : is_among c.key_of-mint.result.now (keys_in c.loop-i.mints) ≡ (ltb 0 c.loop-i.mints.count && same_key c.loop-k.k.bytes c.key_of-mint.result.now) = let filled = c.loop-i.invariant.2 in
+    search_ended c.loop-k.invariant filled.places (omega arith) (sym c.goes_on.ensures ∙ c.loop-k-test.false) in
+    mint_room c.loop-i.mints (action_at c.args.region.now c.action_in-view.result) _ c.key_of-mint.ensures _ looked
     (sym c.is_new.ensures ∙ c.if-is_new.true)
 
 pub loop-i-preserved : goal.loop-i-preserved
 unfolding action_at
 loop-i-preserved c =
+    let looked : is_among c.key_of-mint.result.now (keys_in c.loop-i.mints) ≡ (ltb 0 c.loop-i.mints.count && same_key c.loop-k.k.bytes c.key_of-mint.result.now) = let filled = c.loop-i.invariant.2 in
+    search_ended c.loop-k.invariant filled.places (omega arith) (sym c.goes_on.ensures ∙ c.loop-k-test.false) in
     let i = c.loop-i.i in
     let row = c.args.actions.now in
     let mints : Keys = c.loop-i.mints in
@@ -75,10 +74,10 @@ loop-i-preserved c =
     let its = c.key_of-mint.ensures in
     let act = action_at c.args.region.now c.action_in-view.result in
     let put : c.if-is_new.mints ≡ with_mint mints act =
-    ⊎_elim
-    (λ w. w.2 ∙ ap (λ (k : Key). record { list = set mints.list mints.count k; count = mints.count + 1 }) w.1.ensures ∙ sym (mint_new mints act _ its _ (looked ⟪Else1⟫) (sym c.is_new.ensures ∙ w.0.taken)))
-    (λ w. w.1 ∙ sym (mint_same mints act _ its _ (looked ⟪Else1⟫) (sym c.is_new.ensures ∙ w.0.left)))
-    c.if-is_new.branch in (
+    elim c.if-is_new.branch [
+      then-is_new w ↦ w.mints-is ∙ ap (λ (k : Key). record { list = set mints.list mints.count k; count = mints.count + 1 }) w.key_of-key.ensures ∙ sym (mint_new mints act _ its _ looked (sym c.is_new.ensures ∙ w.if-is_new.true))
+    | else-is_new w ↦ w.mints-is ∙ sym (mint_same mints act _ its _ looked (sym c.is_new.ensures ∙ w.if-is_new.false))
+    ] in (
       omega arith,
       c.loop-i.invariant.1,
       rw put (filled_next mints act filled),
