@@ -1,5 +1,6 @@
 // A mint's balance over the records of a row, and those of a list of mints in one walk.
 #![tactic(auto)]
+
 ghost use Rattle.std.specs.Prelude.{◌≡◌, cond, List, map, ℕ};
 ghost use Rattle.number.specs.Number.{capped_sum};
 ghost use Rattle.key.specs.Key.{same_key};

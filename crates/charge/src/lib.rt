@@ -1,6 +1,7 @@
 // Charges, the actions of a row with an amount each: what the rules of a class answer to them, and
 // settling them where they lie.
 #![tactic(auto)]
+
 ghost use Rattle.std.specs.Prelude.{◌≡◌, cond, min, length};
 ghost use Rattle.answer.specs.Numbers.{answer, accepted};
 ghost use Rattle.action.specs.Views.{action_at};

@@ -1,5 +1,6 @@
 // Step 6: the authorities of the vault's token accounts of listed mints stay as they were.
 #![tactic(auto)]
+
 ghost use Rattle.std.specs.Prelude.{◌≡◌, ◌&&◌, List, ℕ, leb, length};
 ghost use Rattle.key.specs.Key.{same_key};
 ghost use Rattle.keys.specs.Views.{is_among, keys_in};

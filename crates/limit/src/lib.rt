@@ -1,6 +1,7 @@
 // The rule of one limit, for SOL and tokens alike, and what is written when it is kept. It reads an
 // action's amounts from the part of the region that they lie in.
 #![tactic(auto)]
+
 ghost use Rattle.std.specs.Prelude.{◌≡◌, ◌*◌, ◌/◌};
 ghost use Rattle.action.specs.Views.{action_at};
 ghost use Rattle.limit.specs.Limit.{refusal_of, window_over, base, above as is_above, breaks as does_break, rule_answer, spent_change, is_limit, live_change, change_of};

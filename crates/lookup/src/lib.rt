@@ -1,5 +1,6 @@
 // Indexes into a table: the key at one, and resolving those of an instruction.
 #![tactic(auto)]
+
 ghost use Rattle.std.specs.Prelude.{◌≡◌};
 ghost use Rattle.account.specs.Views.{records_in};
 ghost use Rattle.lookup.specs.Indexes.{all_below, resolvable, resolving, key_among, key_at};

@@ -1,5 +1,6 @@
 // Step 5: each instruction's program against the lists.
 #![tactic(auto)]
+
 ghost use Rattle.std.specs.Prelude.{◌≡◌, not, ◌&&◌, eqb, ltb};
 ghost use Rattle.key.specs.Key.{same_key};
 ghost use Rattle.action.specs.Action.{expired, program_whitelist};

@@ -1,6 +1,7 @@
 // The account table: cutting it into views of its records, in one pass over their headers. Any bytes get
 // an answer.
 #![tactic(auto)]
+
 ghost use Rattle.std.specs.Prelude.{◌≡◌};
 ghost use Rattle.answer.specs.Numbers.{answer as answer_of, bad_table};
 ghost use Rattle.answer.specs.Refusable.{refused as Refused};

@@ -1,5 +1,6 @@
 // Token accounts: which records are one, and their mint, holder and amount.
 #![tactic(auto)]
+
 mod programs;
 
 ghost use Rattle.std.specs.Prelude.{◌≡◌};
