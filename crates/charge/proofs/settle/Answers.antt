@@ -17,7 +17,7 @@ loop-i-preserved c =
     let applied = c.apply_change in (
       omega arith,
       c.loop-i.invariant.1,
-      applied.auto.0 ∙ c.loop-i.invariant.2,
+      applied.auto.region ∙ c.loop-i.invariant.2,
       rw (add-one i, applied.ensures)
           (sym (settle_step _ row amounts i c.loop-i.region _ _ c.action_in-view.ensures (omega arith) (omega arith) c.change_of-change.ensures)
           ∙ c.loop-i.invariant.3),
