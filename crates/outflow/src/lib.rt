@@ -1,5 +1,6 @@
 // The amount that each action's rule looks at.
 #![tactic(auto)]
+
 ghost use Rattle.std.specs.Prelude.{◌≡◌, true, map, min, length};
 ghost use Rattle.keys.specs.Views.{keys_in};
 ghost use Rattle.action.specs.Fields.{key_of};
