@@ -4,7 +4,7 @@ use mathlib.Core.Path.{◌≡◌, refl, sym, ap, ap₂, ◌∙◌}
 use mathlib.Core.Bool.{Bool, true, false, not, cond, ◌&&◌}
 use mathlib.Core.List.{List, [], ◌∷◌, ◌++◌, map}
 use mathlib.Core.Option.{Option, none, some}
-use Prim.Native.Nat.{ℕ, ◌-◌, ◌*◌, ◌<◌, ◌≤◌}
+use Prim.Native.Nat.{ℕ, ◌+◌, ◌-◌, ◌*◌, ◌<◌, ◌≤◌}
 use native.Mathlib.Omega.{arith}
 use borrow.Author.Tests.{eq-eqb, ne_eqb}
 use lib.Dec.{lit<}
@@ -33,7 +33,7 @@ use Rattle.mints.proofs.Held.{listed_mints_hold}
 use Rattle.compact.specs.declared.Entry.{Entry}
 use Rattle.compact.specs.declared.ParsedInstructions.{ParsedInstructions}
 use Rattle.compact.specs.declared.Programs.{Programs}
-use Rattle.compact.specs.Compact.{Instruction, Read, decode}
+use Rattle.compact.specs.Compact.{Instruction, Read, decode, encode_one}
 use Rattle.compact.specs.Views.{reading, entries_from, entry_at, parsed_programs, reading_refused}
 use Rattle.compact.proofs.Indexes.{programs_in, programs_counted, programs_answer_lem}
 use Rattle.compact.proofs.Places.{entries_held}
@@ -120,7 +120,7 @@ no_views_settled slot row amounts s few = settle_all slot row amounts s ∙ sett
 programs_placed : (at : ℕ) (is : List Instruction) → map (λ (e : Entry). e.program) (entries_from at is) ≡ map (λ (i : Instruction). i.program) is
 unfolding entries_from entry_at
 programs_placed at [] = refl
-programs_placed at (i ∷ is) = ap (λ (l : List ℕ). i.program ∷ l) (programs_placed _ is)
+programs_placed at (i ∷ is) = ap (λ (l : List ℕ). i.program ∷ l) (programs_placed (at + length (encode_one i)) is)
 
 entries_read : (s : List ℕ) → programs_in (reading s).entries ≡ program_indexes (decode s)
 unfolding programs_in outcome reading_refused

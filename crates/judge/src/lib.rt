@@ -1,5 +1,6 @@
 // The judged call: the nine steps in order.
 #![tactic(auto)]
+
 ghost use Rattle.std.specs.Prelude.{◌≡◌, true, cond, map, length};
 ghost use Rattle.answer.specs.Numbers.{accepts};
 ghost use Rattle.row.specs.Views.{actions_in};
