@@ -1,6 +1,7 @@
 // The replay's input: its opening and its calls, cut from the front of lent bytes. Any bytes get an
 // answer. A part is named by its place in the bytes, and nothing is copied.
 #![tactic(auto)]
+
 ghost use Rattle.std.specs.Prelude.{◌≡◌};
 ghost use Rattle.frame.specs.Frame.{opening_size, parts_length, whole_call, front_of};
 ghost use Rattle.frame.specs.Views.{call_size};

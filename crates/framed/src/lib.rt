@@ -1,5 +1,6 @@
 // What lies at the front of the replay's input, answered: the opening's region, and a call.
 #![tactic(auto)]
+
 ghost use Rattle.std.specs.Prelude.{◌≡◌};
 ghost use Rattle.judge.specs.Judge.{judged, region_after};
 ghost use Rattle.framed.specs.Framed.{call_in};

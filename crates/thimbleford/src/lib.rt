@@ -1,6 +1,7 @@
 // The co-signer's boundary: creation and the judged call as C functions, each answering with a number of the table, and
 // the version of the boundary.
 #![tactic(auto)]
+
 ghost use Rattle.std.specs.Prelude.{◌≡◌};
 ghost use Rattle.creation.specs.Creation.{creation};
 ghost use Rattle.judge.specs.Judge.{call_of, judged, region_after};
