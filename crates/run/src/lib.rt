@@ -2,6 +2,7 @@
 // says what happened. The memory is lent and fixed, whatever the input's length: one part holds the
 // opening, in which the region is judged where it lies, the other the call that is coming.
 #![tactic(auto)]
+
 ghost use Rattle.std.specs.Prelude.{◌+◌, ◌-◌, ◌≤◌, min, ◌≡◌, cond, length, take};
 ghost use Rattle.std.proofs.Math.Seq.{paste};
 ghost use Rattle.run.specs.declared.Stage.TheVariants.{Opening, Calls};
@@ -217,7 +218,7 @@ fn fill(memory: &mut [u8], got: usize, size: usize, piece: &[u8]) -> usize
 // up to that size. Says how many.
 fn gather(stage: Stage, memory: &mut [u8], got: usize, piece: &[u8]) -> usize
     requires got_in_bounds { got ≤ length memory.old }
-    requires stage_in_bounds { most_of stage ≤ length memory.old }
+    requires room { most_of stage ≤ length memory.old }
     ensures result_in_bounds { got + result ≤ length memory.old }
     ensures value { result ≡ taken_of stage (take got memory.old) piece.now }
     ensures memory_after { memory.new ≡ paste memory.old got piece.now result }
@@ -242,8 +243,8 @@ fn feed_opening(state: State, opening: &mut [u8], piece: &[u8]) -> Fed
 }
 
 fn feed_call(state: State, opening: &mut [u8], frame: &mut [u8], piece: &[u8]) -> Fed
-    requires most_of_in_bounds { most_of Opening ≤ length opening.old }
-    requires most_of_in_bounds_2 { most_of Calls ≤ length frame.old }
+    requires opening_room { most_of Opening ≤ length opening.old }
+    requires frame_room { most_of Calls ≤ length frame.old }
     ensures value { result ≡ fed_call state opening.old frame.old piece.now }
     ensures opening_after { opening.new ≡ opening_called state opening.old frame.old piece.now }
     ensures frame_after { frame.new ≡ memory_fed Calls state.got frame.old piece.now }

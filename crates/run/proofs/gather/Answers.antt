@@ -1,0 +1,21 @@
+-- `run::gather` meets its contract, by the two steps of taking bytes and of copying them.
+-- Assumes nothing.
+use mathlib.Core.Path.{sym}
+use native.Mathlib.Omega.{arith}
+use lib.Seq.{length-take-le}
+use Rattle.run.proofs.Gathering.{tail_part, gathered}
+use Rattle.run.proofs.gather.Goals as goal
+
+pub slice_bounds-wanted-end-2 : goal.slice_bounds-wanted-end-2
+slice_bounds-wanted-end-2 c = sym (length-take-le _ _ (omega arith))
+
+pub slice_bounds-wanted-end-4 : goal.slice_bounds-wanted-end-4
+slice_bounds-wanted-end-4 c = sym (length-take-le _ _ (omega arith))
+
+pub returns : goal.returns
+returns c =
+    let args = c.args in
+    let took = c.fill-first.ensures in
+    let both = gathered _ _ args.piece.now _ _ _ _ _ _ _ _ (omega arith) c.wanted-head.ensures.value took.value took.memory_after
+    c.wanted-size.ensures.value (tail_part args.piece.now c.fill-first.result) c.fill.ensures.value c.fill.ensures.memory_after in
+    record { result_in_bounds = omega arith; value = both.0; memory_after = both.1 }
