@@ -18,7 +18,7 @@ import sys
 HERE = os.path.dirname(os.path.realpath(__file__))
 ROOT = sys.argv[1] if len(sys.argv) > 1 else os.path.dirname(HERE)
 WORD = re.compile(r'[^\s(){}.;,@"«»`]+')
-ENTRY = re.compile(r"\S+( : (OneOutcome\w*) (\S+)\.ended )")
+ENTRY = re.compile(r"(?m)^pub (\S+) : OneOutcome\w* (\S+)\.ended ")
 
 everywhere, within = {}, []
 with open(os.path.join(HERE, "respell.tsv"), encoding="utf-8") as table:
@@ -30,15 +30,17 @@ with open(os.path.join(HERE, "respell.tsv"), encoding="utf-8") as table:
             else:
                 everywhere[old] = new
 
-
 def turned(text, names):
     return WORD.sub(lambda word: names.get(word[0], word[0]), text)
 
-
-def entry(line):
-    """`pub number-read-u16 : OneOutcome number.read_u16.ended ..` under the function's own name."""
-    return ENTRY.sub(lambda m: m[3].replace(".", "-") + m[1], line, count=1)
-
+def entries(text):
+    """The entries of a file, number-read-u16 for number.read_u16, each under its function's own name."""
+    plain = re.compile(r"[-._]")
+    return {
+        name: path.replace(".", "-")
+        for name, path in ENTRY.findall(text)
+        if plain.split(name) == plain.split(path)
+    }
 
 for kind in ("src/**/*.rt", "specs/**/*.antt", "proofs/**/*.antt", "must-fail/*.edit"):
     for path in glob.glob(os.path.join(ROOT, "crates", "*", kind), recursive=True):
@@ -48,9 +50,9 @@ for kind in ("src/**/*.rt", "specs/**/*.antt", "proofs/**/*.antt", "must-fail/*.
             names = {old: new for old, new in names.items() if "-" not in old}
         with open(path, encoding="utf-8") as file:
             text = file.read()
-        new = turned(text, names)
         if inside.startswith("outcomes/proofs/"):
-            new = "\n".join(map(entry, new.split("\n")))
+            names = names | entries(text)
+        new = turned(text, names)
         if new != text:
             with open(path, "w", encoding="utf-8") as file:
                 file.write(new)

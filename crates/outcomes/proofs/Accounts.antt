@@ -10,25 +10,25 @@ use Rattle.outcomes.specs.Outcome.{OneOutcome, OneOutcomeOfSlice}
 use Rattle.outcomes.proofs.Laws.{both, one-outcome}
 
 pub account-record_key : OneOutcomeOfSlice account.record_key.ended account.record_key.Reads.Pre account.record_key.Reads.Post
-account-record-key _ _ = (tt, λ _ _ p q. both (one-outcome p q) refl)
+account-record_key _ _ = (tt, λ _ _ p q. both (one-outcome p q) refl)
 
 pub account-record_owner : OneOutcomeOfSlice account.record_owner.ended account.record_owner.Reads.Pre account.record_owner.Reads.Post
-account-record-owner _ _ = (tt, λ _ _ p q. both (one-outcome p q) refl)
+account-record_owner _ _ = (tt, λ _ _ p q. both (one-outcome p q) refl)
 
 pub account-record_payload : OneOutcomeOfSlice account.record_payload.ended account.record_payload.Reads.Pre account.record_payload.Reads.Post
-account-record-payload _ _ = (tt, λ _ _ p q. both (one-outcome p q) refl)
+account-record_payload _ _ = (tt, λ _ _ p q. both (one-outcome p q) refl)
 
 pub account-view_in : OneOutcome account.view_in.ended account.view_in.Reads.Pre account.view_in.Reads.Post
-account-view-in _ _ = (tt, λ _ _ p q. both (one-outcome p q) refl)
+account-view_in _ _ = (tt, λ _ _ p q. both (one-outcome p q) refl)
 
 pub account-places_in : OneOutcomeOfSlice account.places_in.ended account.places_in.Reads.Pre account.places_in.Reads.Post
-account-places-in _ _ = (tt, λ _ _ p q. both (one-outcome p q) refl)
+account-places_in _ _ = (tt, λ _ _ p q. both (one-outcome p q) refl)
 
 pub table-cut_places : OneOutcome table.cut_places.ended table.cut_places.Reads.Pre table.cut_places.Reads.Post
-table-cut-places _ _ = (tt, λ _ _ p q. both (one-outcome p q) refl)
+table-cut_places _ _ = (tt, λ _ _ p q. both (one-outcome p q) refl)
 
 pub lookup-key_at : OneOutcomeOfSlice lookup.key_at.ended lookup.key_at.Reads.Pre lookup.key_at.Reads.Post
-lookup-key-at _ _ = (tt, λ _ _ p q. both (one-outcome p q) refl)
+lookup-key_at _ _ = (tt, λ _ _ p q. both (one-outcome p q) refl)
 
 pub lookup-lookup : OneOutcomeOfSlice lookup.lookup.ended lookup.lookup.Reads.Pre lookup.lookup.Reads.Post
 lookup-lookup _ _ = (tt, λ _ _ p q. both (one-outcome p q) refl)
@@ -37,16 +37,16 @@ pub lookup-resolve : OneOutcome lookup.resolve.ended lookup.resolve.Reads.Pre lo
 lookup-resolve _ _ = (tt, λ _ _ p q. both (one-outcome p q) refl)
 
 pub token-is_token_account : OneOutcome token.is_token_account.ended token.is_token_account.Reads.Pre token.is_token_account.Reads.Post
-token-is-token-account _ _ = (tt, λ _ _ p q. both (one-outcome p q) refl)
+token-is_token_account _ _ = (tt, λ _ _ p q. both (one-outcome p q) refl)
 
 pub token-mint_of : OneOutcomeOfSlice token.mint_of.ended token.mint_of.Reads.Pre token.mint_of.Reads.Post
-token-mint-of _ _ = (tt, λ _ _ p q. both (one-outcome p q) refl)
+token-mint_of _ _ = (tt, λ _ _ p q. both (one-outcome p q) refl)
 
 pub token-is_held_by : OneOutcome token.is_held_by.ended token.is_held_by.Reads.Pre token.is_held_by.Reads.Post
-token-is-held-by _ _ = (tt, λ _ _ p q. both (one-outcome p q) refl)
+token-is_held_by _ _ = (tt, λ _ _ p q. both (one-outcome p q) refl)
 
 pub token-amount_of : OneOutcome token.amount_of.ended token.amount_of.Reads.Pre token.amount_of.Reads.Post
-token-amount-of _ _ = (tt, λ _ _ p q. both (one-outcome p q) refl)
+token-amount_of _ _ = (tt, λ _ _ p q. both (one-outcome p q) refl)
 
 pub balance-balance : OneOutcome balance.balance.ended balance.balance.Reads.Pre balance.balance.Reads.Post
 balance-balance _ _ = (tt, λ _ _ p q. both (one-outcome p q) refl)

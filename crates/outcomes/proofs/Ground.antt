@@ -16,40 +16,40 @@ pub answer-Answer-accepts : OneOutcome answer.Answer.accepts.ended answer.Answer
 answer-Answer-accepts _ _ = (tt, λ _ _ p q. both (one-outcome p q) refl)
 
 pub number-read_u16 : OneOutcome number.read_u16.ended number.read_u16.Reads.Pre number.read_u16.Reads.Post
-number-read-u16 _ _ = (tt, λ _ _ p q. both (one-outcome p q) refl)
+number-read_u16 _ _ = (tt, λ _ _ p q. both (one-outcome p q) refl)
 
 pub number-read_u32 : OneOutcome number.read_u32.ended number.read_u32.Reads.Pre number.read_u32.Reads.Post
-number-read-u32 _ _ = (tt, λ _ _ p q. both (one-outcome p q) refl)
+number-read_u32 _ _ = (tt, λ _ _ p q. both (one-outcome p q) refl)
 
 pub number-read_u64 : OneOutcome number.read_u64.ended number.read_u64.Reads.Pre number.read_u64.Reads.Post
-number-read-u64 _ _ = (tt, λ _ _ p q. both (one-outcome p q) refl)
+number-read_u64 _ _ = (tt, λ _ _ p q. both (one-outcome p q) refl)
 
 pub number-write_u64 : OneOutcome number.write_u64.ended number.write_u64.Reads.Pre number.write_u64.Reads.Post
-number-write-u64 _ _ = (tt, λ _ _ p q. both (one-outcome p.0 q.0) (both (one-outcome p.1 q.1) refl))
+number-write_u64 _ _ = (tt, λ _ _ p q. both (one-outcome p.0 q.0) (both (one-outcome p.1 q.1) refl))
 
 pub number-capped_sum : OneOutcome number.capped_sum.ended number.capped_sum.Reads.Pre number.capped_sum.Reads.Post
-number-capped-sum _ _ = (tt, λ _ _ p q. both (one-outcome p q) refl)
+number-capped_sum _ _ = (tt, λ _ _ p q. both (one-outcome p q) refl)
 
 pub number-floored_difference : OneOutcome number.floored_difference.ended number.floored_difference.Reads.Pre number.floored_difference.Reads.Post
-number-floored-difference _ _ = (tt, λ _ _ p q. both (one-outcome p q) refl)
+number-floored_difference _ _ = (tt, λ _ _ p q. both (one-outcome p q) refl)
 
 pub part-part_at : OneOutcomeOfSlice part.part_at.ended part.part_at.Reads.Pre part.part_at.Reads.Post
-part-part-at _ _ = (tt, λ _ _ p q. both (one-outcome p q) refl)
+part-part_at _ _ = (tt, λ _ _ p q. both (one-outcome p q) refl)
 
 pub key-same_key : OneOutcome key.same_key.ended key.same_key.Reads.Pre key.same_key.Reads.Post
-key-same-key _ _ = (tt, λ _ _ p q. both (one-outcome p q) refl)
+key-same_key _ _ = (tt, λ _ _ p q. both (one-outcome p q) refl)
 
 pub key-key_of : OneOutcome key.key_of.ended key.key_of.Reads.Pre key.key_of.Reads.Post
-key-key-of _ _ = (tt, λ _ _ p q. both (one-outcome p q) refl)
+key-key_of _ _ = (tt, λ _ _ p q. both (one-outcome p q) refl)
 
 pub key-Key-is : OneOutcome key.Key.is.ended key.Key.is.Reads.Pre key.Key.is.Reads.Post
 key-Key-is _ _ = (tt, λ _ _ p q. both (one-outcome p q) refl)
 
 pub keys-goes_on : OneOutcome keys.goes_on.ended keys.goes_on.Reads.Pre keys.goes_on.Reads.Post
-keys-goes-on _ _ = (tt, λ _ _ p q. both (one-outcome p q) refl)
+keys-goes_on _ _ = (tt, λ _ _ p q. both (one-outcome p q) refl)
 
 pub keys-is_found : OneOutcome keys.is_found.ended keys.is_found.Reads.Pre keys.is_found.Reads.Post
-keys-is-found _ _ = (tt, λ _ _ p q. both (one-outcome p q) refl)
+keys-is_found _ _ = (tt, λ _ _ p q. both (one-outcome p q) refl)
 
 pub keys-counted : OneOutcome keys.counted.ended keys.counted.Reads.Pre keys.counted.Reads.Post
 keys-counted _ _ = (tt, λ _ _ p q. both (one-outcome p q) refl)

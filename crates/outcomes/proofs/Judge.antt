@@ -12,22 +12,22 @@ use Rattle.outcomes.specs.Outcome.{OneOutcome}
 use Rattle.outcomes.proofs.Laws.{both, one-outcome}
 
 pub limit-rule_answer : OneOutcome limit.rule_answer.ended limit.rule_answer.Reads.Pre limit.rule_answer.Reads.Post
-limit-rule-answer _ _ = (tt, λ _ _ p q. both (one-outcome p q) refl)
+limit-rule_answer _ _ = (tt, λ _ _ p q. both (one-outcome p q) refl)
 
 pub limit-change_of : OneOutcome limit.change_of.ended limit.change_of.Reads.Pre limit.change_of.Reads.Post
-limit-change-of _ _ = (tt, λ _ _ p q. both (one-outcome p q) refl)
+limit-change_of _ _ = (tt, λ _ _ p q. both (one-outcome p q) refl)
 
 pub charge-class_answer : OneOutcome charge.class_answer.ended charge.class_answer.Reads.Pre charge.class_answer.Reads.Post
-charge-class-answer _ _ = (tt, λ _ _ p q. both (one-outcome p q) refl)
+charge-class_answer _ _ = (tt, λ _ _ p q. both (one-outcome p q) refl)
 
 pub charge-settle : OneOutcome charge.settle.ended charge.settle.Reads.Pre charge.settle.Reads.Post
 charge-settle _ _ = (tt, λ _ _ p q. both refl (both (one-outcome p q) refl))
 
 pub programs-evaluate_pre_actions : OneOutcome programs.evaluate_pre_actions.ended programs.evaluate_pre_actions.Reads.Pre programs.evaluate_pre_actions.Reads.Post
-programs-evaluate-pre-actions _ _ = (tt, λ _ _ p q. both (one-outcome p q) refl)
+programs-evaluate_pre_actions _ _ = (tt, λ _ _ p q. both (one-outcome p q) refl)
 
 pub freeze-verify_token_authorities_unchanged : OneOutcome freeze.verify_token_authorities_unchanged.ended freeze.verify_token_authorities_unchanged.Reads.Pre freeze.verify_token_authorities_unchanged.Reads.Post
-freeze-verify-token-authorities-unchanged _ _ = (tt, λ _ _ p q. both (one-outcome p q) refl)
+freeze-verify_token_authorities_unchanged _ _ = (tt, λ _ _ p q. both (one-outcome p q) refl)
 
 pub outflow-amounts : OneOutcome outflow.amounts.ended outflow.amounts.Reads.Pre outflow.amounts.Reads.Post
 outflow-amounts _ _ = (tt, λ _ _ p q. both (one-outcome p q) refl)
@@ -36,10 +36,10 @@ pub judge-judge : OneOutcome judge.judge.ended judge.judge.Reads.Pre judge.judge
 judge-judge _ _ = (tt, λ _ _ p q. both (one-outcome p.0 q.0) (both (one-outcome p.1 q.1) refl))
 
 pub thimbleford-thimbleford_version : OneOutcome thimbleford.thimbleford_version.ended thimbleford.thimbleford_version.Reads.Pre thimbleford.thimbleford_version.Reads.Post
-thimbleford-thimbleford-version _ _ = (tt, λ _ _ p q. both (one-outcome p q) refl)
+thimbleford-thimbleford_version _ _ = (tt, λ _ _ p q. both (one-outcome p q) refl)
 
 pub thimbleford-thimbleford_create : OneOutcome thimbleford.thimbleford_create.ended thimbleford.thimbleford_create.Reads.Pre thimbleford.thimbleford_create.Reads.Post
-thimbleford-thimbleford-create _ _ = (tt, λ _ _ p q. both (one-outcome p q) refl)
+thimbleford-thimbleford_create _ _ = (tt, λ _ _ p q. both (one-outcome p q) refl)
 
 pub thimbleford-thimbleford_judge : OneOutcome thimbleford.thimbleford_judge.ended thimbleford.thimbleford_judge.Reads.Pre thimbleford.thimbleford_judge.Reads.Post
-thimbleford-thimbleford-judge _ _ = (tt, λ _ _ p q. both (one-outcome p.0 q.0) (both (one-outcome p.1 q.1) refl))
+thimbleford-thimbleford_judge _ _ = (tt, λ _ _ p q. both (one-outcome p.0 q.0) (both (one-outcome p.1 q.1) refl))

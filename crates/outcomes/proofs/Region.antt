@@ -11,25 +11,25 @@ use Rattle.outcomes.specs.Outcome.{OneOutcome, OneOutcomeOfSlice}
 use Rattle.outcomes.proofs.Laws.{both, one-outcome}
 
 pub action-fields-is_token : OneOutcome action.fields.is_token.ended action.fields.is_token.Reads.Pre action.fields.is_token.Reads.Post
-action-fields-is-token _ _ = (tt, λ _ _ p q. both (one-outcome p q) refl)
+action-fields-is_token _ _ = (tt, λ _ _ p q. both (one-outcome p q) refl)
 
 pub action-fields-is_recurring : OneOutcome action.fields.is_recurring.ended action.fields.is_recurring.Reads.Pre action.fields.is_recurring.Reads.Post
-action-fields-is-recurring _ _ = (tt, λ _ _ p q. both (one-outcome p q) refl)
+action-fields-is_recurring _ _ = (tt, λ _ _ p q. both (one-outcome p q) refl)
 
 pub action-fields-is_expired : OneOutcome action.fields.is_expired.ended action.fields.is_expired.Reads.Pre action.fields.is_expired.Reads.Post
-action-fields-is-expired _ _ = (tt, λ _ _ p q. both (one-outcome p q) refl)
+action-fields-is_expired _ _ = (tt, λ _ _ p q. both (one-outcome p q) refl)
 
 pub action-fields-data_of : OneOutcomeOfSlice action.fields.data_of.ended action.fields.data_of.Reads.Pre action.fields.data_of.Reads.Post
-action-fields-data-of _ _ = (tt, λ _ _ p q. both (one-outcome p q) refl)
+action-fields-data_of _ _ = (tt, λ _ _ p q. both (one-outcome p q) refl)
 
 pub action-fields-key_of : OneOutcomeOfSlice action.fields.key_of.ended action.fields.key_of.Reads.Pre action.fields.key_of.Reads.Post
-action-fields-key-of _ _ = (tt, λ _ _ p q. both (one-outcome p q) refl)
+action-fields-key_of _ _ = (tt, λ _ _ p q. both (one-outcome p q) refl)
 
 pub action-fields-amounts_of : OneOutcomeOfSlice action.fields.amounts_of.ended action.fields.amounts_of.Reads.Pre action.fields.amounts_of.Reads.Post
-action-fields-amounts-of _ _ = (tt, λ _ _ p q. both (one-outcome p q) refl)
+action-fields-amounts_of _ _ = (tt, λ _ _ p q. both (one-outcome p q) refl)
 
 pub action-fields-mint_length : OneOutcome action.fields.mint_length.ended action.fields.mint_length.Reads.Pre action.fields.mint_length.Reads.Post
-action-fields-mint-length _ _ = (tt, λ _ _ p q. both (one-outcome p q) refl)
+action-fields-mint_length _ _ = (tt, λ _ _ p q. both (one-outcome p q) refl)
 
 pub action-fields-remaining : OneOutcome action.fields.remaining.ended action.fields.remaining.Reads.Pre action.fields.remaining.Reads.Post
 action-fields-remaining _ _ = (tt, λ _ _ p q. both (one-outcome p q) refl)
@@ -44,34 +44,34 @@ pub action-fields-window : OneOutcome action.fields.window.ended action.fields.w
 action-fields-window _ _ = (tt, λ _ _ p q. both (one-outcome p q) refl)
 
 pub action-fields-last_reset : OneOutcome action.fields.last_reset.ended action.fields.last_reset.Reads.Pre action.fields.last_reset.Reads.Post
-action-fields-last-reset _ _ = (tt, λ _ _ p q. both (one-outcome p q) refl)
+action-fields-last_reset _ _ = (tt, λ _ _ p q. both (one-outcome p q) refl)
 
 pub action-expected_data_size : OneOutcome action.expected_data_size.ended action.expected_data_size.Reads.Pre action.expected_data_size.Reads.Post
-action-expected-data-size _ _ = (tt, λ _ _ p q. both (one-outcome p q) refl)
+action-expected_data_size _ _ = (tt, λ _ _ p q. both (one-outcome p q) refl)
 
 pub change-apply_change : OneOutcome change.apply_change.ended change.apply_change.Reads.Pre change.apply_change.Reads.Post
-change-apply-change _ _ = (tt, λ _ _ p q. both refl (both (one-outcome p q) refl))
+change-apply_change _ _ = (tt, λ _ _ p q. both refl (both (one-outcome p q) refl))
 
 pub row-actions_in : OneOutcomeOfSlice row.actions_in.ended row.actions_in.Reads.Pre row.actions_in.Reads.Post
-row-actions-in _ _ = (tt, λ _ _ p q. both (one-outcome p q) refl)
+row-actions_in _ _ = (tt, λ _ _ p q. both (one-outcome p q) refl)
 
 pub row-how_many : OneOutcome row.how_many.ended row.how_many.Reads.Pre row.how_many.Reads.Post
-row-how-many _ _ = (tt, λ _ _ p q. both (one-outcome p q) refl)
+row-how_many _ _ = (tt, λ _ _ p q. both (one-outcome p q) refl)
 
 pub row-action_in : OneOutcome row.action_in.ended row.action_in.Reads.Pre row.action_in.Reads.Post
-row-action-in _ _ = (tt, λ _ _ p q. both (one-outcome p q) refl)
+row-action_in _ _ = (tt, λ _ _ p q. both (one-outcome p q) refl)
 
 pub region-parse-parse_actions : OneOutcome region.parse.parse_actions.ended region.parse.parse_actions.Reads.Pre region.parse.parse_actions.Reads.Post
-region-parse-parse-actions _ _ = (tt, λ _ _ p q. both (one-outcome p q) refl)
+region-parse-parse_actions _ _ = (tt, λ _ _ p q. both (one-outcome p q) refl)
 
 pub creation-how_often : OneOutcome creation.how_often.ended creation.how_often.Reads.Pre creation.how_often.Reads.Post
-creation-how-often _ _ = (tt, λ _ _ p q. both (one-outcome p q) refl)
+creation-how_often _ _ = (tt, λ _ _ p q. both (one-outcome p q) refl)
 
 pub creation-validate_actions_buffer : OneOutcome creation.validate_actions_buffer.ended creation.validate_actions_buffer.Reads.Pre creation.validate_actions_buffer.Reads.Post
-creation-validate-actions-buffer _ _ = (tt, λ _ _ p q. both (one-outcome p q) refl)
+creation-validate_actions_buffer _ _ = (tt, λ _ _ p q. both (one-outcome p q) refl)
 
 pub creation-stored_answer : OneOutcome creation.stored_answer.ended creation.stored_answer.Reads.Pre creation.stored_answer.Reads.Post
-creation-stored-answer _ _ = (tt, λ _ _ p q. both (one-outcome p q) refl)
+creation-stored_answer _ _ = (tt, λ _ _ p q. both (one-outcome p q) refl)
 
 pub mints-listed_mints : OneOutcome mints.listed_mints.ended mints.listed_mints.Reads.Pre mints.listed_mints.Reads.Post
-mints-listed-mints _ _ = (tt, λ _ _ p q. both (one-outcome p q) refl)
+mints-listed_mints _ _ = (tt, λ _ _ p q. both (one-outcome p q) refl)

@@ -8,22 +8,22 @@ use Rattle.outcomes.specs.Outcome.{OneOutcome}
 use Rattle.outcomes.proofs.Laws.{both, one-outcome}
 
 pub frame-opening_size : OneOutcome frame.opening_size.ended frame.opening_size.Reads.Pre frame.opening_size.Reads.Post
-frame-opening-size _ _ = (tt, λ _ _ p q. both (one-outcome p q) refl)
+frame-opening_size _ _ = (tt, λ _ _ p q. both (one-outcome p q) refl)
 
 pub frame-call_size : OneOutcome frame.call_size.ended frame.call_size.Reads.Pre frame.call_size.Reads.Post
-frame-call-size _ _ = (tt, λ _ _ p q. both (one-outcome p q) refl)
+frame-call_size _ _ = (tt, λ _ _ p q. both (one-outcome p q) refl)
 
 pub frame-read_call : OneOutcome frame.read_call.ended frame.read_call.Reads.Pre frame.read_call.Reads.Post
-frame-read-call _ _ = (tt, λ _ _ p q. both (one-outcome p q) refl)
+frame-read_call _ _ = (tt, λ _ _ p q. both (one-outcome p q) refl)
 
 pub framed-judge_call : OneOutcome framed.judge_call.ended framed.judge_call.Reads.Pre framed.judge_call.Reads.Post
-framed-judge-call _ _ = (tt, λ _ _ p q. both (one-outcome p.0 q.0) (both (one-outcome p.1 q.1) refl))
+framed-judge_call _ _ = (tt, λ _ _ p q. both (one-outcome p.0 q.0) (both (one-outcome p.1 q.1) refl))
 
 pub framed-hear_opening : OneOutcome framed.hear_opening.ended framed.hear_opening.Reads.Pre framed.hear_opening.Reads.Post
-framed-hear-opening _ _ = (tt, λ _ _ p q. both (one-outcome p q) refl)
+framed-hear_opening _ _ = (tt, λ _ _ p q. both (one-outcome p q) refl)
 
 pub framed-hear_call : OneOutcome framed.hear_call.ended framed.hear_call.Reads.Pre framed.hear_call.Reads.Post
-framed-hear-call _ _ = (tt, λ _ _ p q. both (one-outcome p.0 q.0) (both (one-outcome p.1 q.1) refl))
+framed-hear_call _ _ = (tt, λ _ _ p q. both (one-outcome p.0 q.0) (both (one-outcome p.1 q.1) refl))
 
 pub run-State-new : OneOutcome run.State.new.ended run.State.new.Reads.Pre run.State.new.Reads.Post
 run-State-new _ _ = (tt, λ _ _ p q. both (one-outcome p q) refl)

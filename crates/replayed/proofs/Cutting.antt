@@ -55,9 +55,9 @@ no_bytes : (m k : ℕ) (s : List ℕ) → length s ≤ 0 → calls_up_to m s ≡
 no_bytes m k [] h = none_left m ∙ sym (none_left k)
 no_bytes m k (b ∷ t) h = absurd (omega arith)
 
-one_more : (m k : ℕ) → AsMany m k → AsMany (suc m) (suc k)
-one_more m k more [] h l = no_bytes (suc m) (suc k) [] (omega arith)
-one_more m k more (b ∷ t) h l = go (front_of (b ∷ t)) refl
+one_more_lem : (m k : ℕ) → AsMany m k → AsMany (suc m) (suc k)
+one_more_lem m k more [] h l = no_bytes (suc m) (suc k) [] (omega arith)
+one_more_lem m k more (b ∷ t) h l = go (front_of (b ∷ t)) refl
   where
     go : (f : Front) → front_of (b ∷ t) ≡ f → calls_up_to (suc m) (b ∷ t) ≡ calls_up_to (suc k) (b ∷ t)
     go (Whole c) e =
@@ -71,7 +71,7 @@ one_more m k more (b ∷ t) h l = go (front_of (b ∷ t)) refl
 as_many_as_bytes : (m k : ℕ) → AsMany m k
 as_many_as_bytes zero k = λ s h l. no_bytes zero k s h
 as_many_as_bytes (suc m) zero = λ s h l. no_bytes (suc m) zero s l
-as_many_as_bytes (suc m) (suc k) = one_more m k (as_many_as_bytes m k)
+as_many_as_bytes (suc m) (suc k) = one_more_lem m k (as_many_as_bytes m k)
 
 -- ---- the laws
 
