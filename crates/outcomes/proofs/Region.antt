@@ -2,76 +2,82 @@
 -- Assumes nothing.
 use mathlib.Core.Path.{refl}
 use Rattle.action.proofs as action
+use Rattle.action.specs.contracts as action-contracts
 use Rattle.change.proofs as change
+use Rattle.change.specs.contracts as change-contracts
 use Rattle.row.proofs as row
+use Rattle.row.specs.contracts as row-contracts
 use Rattle.region.proofs as region
+use Rattle.region.specs.contracts as region-contracts
 use Rattle.creation.proofs as creation
+use Rattle.creation.specs.contracts as creation-contracts
 use Rattle.mints.proofs as mints
+use Rattle.mints.specs.contracts as mints-contracts
 use Rattle.outcomes.specs.Outcome.{OneOutcome, OneOutcomeOfSlice}
 use Rattle.outcomes.proofs.Laws.{both, one-outcome}
 
-pub action-fields-is_token : OneOutcome action.fields.is_token.ended action.fields.is_token.Reads.Pre action.fields.is_token.Reads.Post
+pub action-fields-is_token : OneOutcome action-contracts.fields.is_token.ended action.fields.is_token.Reads.Pre action.fields.is_token.Reads.Post
 action-fields-is_token _ _ = (tt, λ _ _ p q. both (one-outcome p q) refl)
 
-pub action-fields-is_recurring : OneOutcome action.fields.is_recurring.ended action.fields.is_recurring.Reads.Pre action.fields.is_recurring.Reads.Post
+pub action-fields-is_recurring : OneOutcome action-contracts.fields.is_recurring.ended action.fields.is_recurring.Reads.Pre action.fields.is_recurring.Reads.Post
 action-fields-is_recurring _ _ = (tt, λ _ _ p q. both (one-outcome p q) refl)
 
-pub action-fields-is_expired : OneOutcome action.fields.is_expired.ended action.fields.is_expired.Reads.Pre action.fields.is_expired.Reads.Post
+pub action-fields-is_expired : OneOutcome action-contracts.fields.is_expired.ended action.fields.is_expired.Reads.Pre action.fields.is_expired.Reads.Post
 action-fields-is_expired _ _ = (tt, λ _ _ p q. both (one-outcome p q) refl)
 
-pub action-fields-data_of : OneOutcomeOfSlice action.fields.data_of.ended action.fields.data_of.Reads.Pre action.fields.data_of.Reads.Post
+pub action-fields-data_of : OneOutcomeOfSlice action-contracts.fields.data_of.ended action.fields.data_of.Reads.Pre action.fields.data_of.Reads.Post
 action-fields-data_of _ _ = (tt, λ _ _ p q. both (one-outcome p q) refl)
 
-pub action-fields-key_of : OneOutcomeOfSlice action.fields.key_of.ended action.fields.key_of.Reads.Pre action.fields.key_of.Reads.Post
+pub action-fields-key_of : OneOutcomeOfSlice action-contracts.fields.key_of.ended action.fields.key_of.Reads.Pre action.fields.key_of.Reads.Post
 action-fields-key_of _ _ = (tt, λ _ _ p q. both (one-outcome p q) refl)
 
-pub action-fields-amounts_of : OneOutcomeOfSlice action.fields.amounts_of.ended action.fields.amounts_of.Reads.Pre action.fields.amounts_of.Reads.Post
+pub action-fields-amounts_of : OneOutcomeOfSlice action-contracts.fields.amounts_of.ended action.fields.amounts_of.Reads.Pre action.fields.amounts_of.Reads.Post
 action-fields-amounts_of _ _ = (tt, λ _ _ p q. both (one-outcome p q) refl)
 
-pub action-fields-mint_length : OneOutcome action.fields.mint_length.ended action.fields.mint_length.Reads.Pre action.fields.mint_length.Reads.Post
+pub action-fields-mint_length : OneOutcome action-contracts.fields.mint_length.ended action.fields.mint_length.Reads.Pre action.fields.mint_length.Reads.Post
 action-fields-mint_length _ _ = (tt, λ _ _ p q. both (one-outcome p q) refl)
 
-pub action-fields-remaining : OneOutcome action.fields.remaining.ended action.fields.remaining.Reads.Pre action.fields.remaining.Reads.Post
+pub action-fields-remaining : OneOutcome action-contracts.fields.remaining.ended action.fields.remaining.Reads.Pre action.fields.remaining.Reads.Post
 action-fields-remaining _ _ = (tt, λ _ _ p q. both (one-outcome p q) refl)
 
-pub action-fields-limit : OneOutcome action.fields.limit.ended action.fields.limit.Reads.Pre action.fields.limit.Reads.Post
+pub action-fields-limit : OneOutcome action-contracts.fields.limit.ended action.fields.limit.Reads.Pre action.fields.limit.Reads.Post
 action-fields-limit _ _ = (tt, λ _ _ p q. both (one-outcome p q) refl)
 
-pub action-fields-spent : OneOutcome action.fields.spent.ended action.fields.spent.Reads.Pre action.fields.spent.Reads.Post
+pub action-fields-spent : OneOutcome action-contracts.fields.spent.ended action.fields.spent.Reads.Pre action.fields.spent.Reads.Post
 action-fields-spent _ _ = (tt, λ _ _ p q. both (one-outcome p q) refl)
 
-pub action-fields-window : OneOutcome action.fields.window.ended action.fields.window.Reads.Pre action.fields.window.Reads.Post
+pub action-fields-window : OneOutcome action-contracts.fields.window.ended action.fields.window.Reads.Pre action.fields.window.Reads.Post
 action-fields-window _ _ = (tt, λ _ _ p q. both (one-outcome p q) refl)
 
-pub action-fields-last_reset : OneOutcome action.fields.last_reset.ended action.fields.last_reset.Reads.Pre action.fields.last_reset.Reads.Post
+pub action-fields-last_reset : OneOutcome action-contracts.fields.last_reset.ended action.fields.last_reset.Reads.Pre action.fields.last_reset.Reads.Post
 action-fields-last_reset _ _ = (tt, λ _ _ p q. both (one-outcome p q) refl)
 
-pub action-expected_data_size : OneOutcome action.expected_data_size.ended action.expected_data_size.Reads.Pre action.expected_data_size.Reads.Post
+pub action-expected_data_size : OneOutcome action-contracts.expected_data_size.ended action.expected_data_size.Reads.Pre action.expected_data_size.Reads.Post
 action-expected_data_size _ _ = (tt, λ _ _ p q. both (one-outcome p q) refl)
 
-pub change-apply_change : OneOutcome change.apply_change.ended change.apply_change.Reads.Pre change.apply_change.Reads.Post
+pub change-apply_change : OneOutcome change-contracts.apply_change.ended change.apply_change.Reads.Pre change.apply_change.Reads.Post
 change-apply_change _ _ = (tt, λ _ _ p q. both refl (both (one-outcome p q) refl))
 
-pub row-actions_in : OneOutcomeOfSlice row.actions_in.ended row.actions_in.Reads.Pre row.actions_in.Reads.Post
+pub row-actions_in : OneOutcomeOfSlice row-contracts.actions_in.ended row.actions_in.Reads.Pre row.actions_in.Reads.Post
 row-actions_in _ _ = (tt, λ _ _ p q. both (one-outcome p q) refl)
 
-pub row-how_many : OneOutcome row.how_many.ended row.how_many.Reads.Pre row.how_many.Reads.Post
+pub row-how_many : OneOutcome row-contracts.how_many.ended row.how_many.Reads.Pre row.how_many.Reads.Post
 row-how_many _ _ = (tt, λ _ _ p q. both (one-outcome p q) refl)
 
-pub row-action_in : OneOutcome row.action_in.ended row.action_in.Reads.Pre row.action_in.Reads.Post
+pub row-action_in : OneOutcome row-contracts.action_in.ended row.action_in.Reads.Pre row.action_in.Reads.Post
 row-action_in _ _ = (tt, λ _ _ p q. both (one-outcome p q) refl)
 
-pub region-parse-parse_actions : OneOutcome region.parse.parse_actions.ended region.parse.parse_actions.Reads.Pre region.parse.parse_actions.Reads.Post
+pub region-parse-parse_actions : OneOutcome region-contracts.parse.parse_actions.ended region.parse.parse_actions.Reads.Pre region.parse.parse_actions.Reads.Post
 region-parse-parse_actions _ _ = (tt, λ _ _ p q. both (one-outcome p q) refl)
 
-pub creation-how_often : OneOutcome creation.how_often.ended creation.how_often.Reads.Pre creation.how_often.Reads.Post
+pub creation-how_often : OneOutcome creation-contracts.how_often.ended creation.how_often.Reads.Pre creation.how_often.Reads.Post
 creation-how_often _ _ = (tt, λ _ _ p q. both (one-outcome p q) refl)
 
-pub creation-validate_actions_buffer : OneOutcome creation.validate_actions_buffer.ended creation.validate_actions_buffer.Reads.Pre creation.validate_actions_buffer.Reads.Post
+pub creation-validate_actions_buffer : OneOutcome creation-contracts.validate_actions_buffer.ended creation.validate_actions_buffer.Reads.Pre creation.validate_actions_buffer.Reads.Post
 creation-validate_actions_buffer _ _ = (tt, λ _ _ p q. both (one-outcome p q) refl)
 
-pub creation-stored_answer : OneOutcome creation.stored_answer.ended creation.stored_answer.Reads.Pre creation.stored_answer.Reads.Post
+pub creation-stored_answer : OneOutcome creation-contracts.stored_answer.ended creation.stored_answer.Reads.Pre creation.stored_answer.Reads.Post
 creation-stored_answer _ _ = (tt, λ _ _ p q. both (one-outcome p q) refl)
 
-pub mints-listed_mints : OneOutcome mints.listed_mints.ended mints.listed_mints.Reads.Pre mints.listed_mints.Reads.Post
+pub mints-listed_mints : OneOutcome mints-contracts.listed_mints.ended mints.listed_mints.Reads.Pre mints.listed_mints.Reads.Post
 mints-listed_mints _ _ = (tt, λ _ _ p q. both (one-outcome p q) refl)
