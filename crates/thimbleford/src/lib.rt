@@ -1,5 +1,5 @@
-// The co-signer's boundary: creation and the judged call as C functions, each answering with a number of the table, and
-// the version of the boundary.
+// The co-signer's boundary: creation and the judged call, each answering with a number of the table, and the version of the
+// boundary. `thimbleford_c` exports the three as C functions.
 #![tactic(auto)]
 
 ghost use Rattle.std.specs.Prelude.{◌≡◌};
@@ -13,24 +13,21 @@ use judge::judge;
 const BOUNDARY_VERSION: u32 = 1;
 
 // The boundary's version: whoever was made for another one asks before the first call, and calls nothing else.
-#[unsafe(no_mangle)]
-pub extern "C" fn thimbleford_version() -> u32
+pub fn thimbleford_version() -> u32
     ensures { result ≡ boundary_version }
 {
     BOUNDARY_VERSION
 }
 
 // What creation answers to a region.
-#[unsafe(no_mangle)]
-pub extern "C" fn thimbleford_create(region: &[u8]) -> u32
+pub fn thimbleford_create(region: &[u8]) -> u32
     ensures { result ≡ (creation region.now).number }
 {
     validate_actions_buffer(region).number
 }
 
 // What a judged call answers; only an accepted one writes the region.
-#[unsafe(no_mangle)]
-pub extern "C" fn thimbleford_judge(
+pub fn thimbleford_judge(
     region: &mut [u8],
     before: &[u8],
     after: &[u8],
