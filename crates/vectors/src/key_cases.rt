@@ -2,6 +2,7 @@
 use crate::text;
 use key::KEY_LENGTH;
 use keys::Keys;
+use std::io;
 
 const LENGTH_SIZE: usize = 4;
 
@@ -14,42 +15,38 @@ fn same_halves(both: &[u8], len: usize) -> bool {
 }
 
 // The first's length (4), the first, and the second: whether both are keys and the same.
-pub(crate) fn same(payload: &[u8]) -> bool {
+pub(crate) fn same(rt: &impl Print, payload: &[u8]) -> io::Result<bool> {
     if payload.len() < LENGTH_SIZE {
-        return false;
+        return Ok(false);
     }
     let len = number::read_u32(payload, 0) as usize;
-    text::print_flag(same_halves(&payload[LENGTH_SIZE..], len));
-    true
+    text::print_flag(rt, same_halves(&payload[LENGTH_SIZE..], len))?;
+    Ok(true)
 }
 
 // The list of a row of keys.
 fn filled(row: &[u8]) -> Keys {
     let mut keys = Keys::none();
-    let mut rest = row.len();
-    while KEY_LENGTH <= rest {
-        let at = row.len() - rest;
-        keys = keys.with(&row[at..at + KEY_LENGTH]);
-        rest -= KEY_LENGTH;
+    for key in row.chunks_exact(KEY_LENGTH) {
+        keys = keys.with(key);
     }
     keys
 }
 
 // How many keys the list of a row has, and whether it holds a key.
-fn print_list(row: &[u8], sought: &[u8]) {
+fn print_list(rt: &impl Print, row: &[u8], sought: &[u8]) -> io::Result<()> {
     let keys = filled(row);
-    text::print_number(keys.count as u64);
-    text::print_byte(b' ');
-    text::print_flag(keys.holds(sought));
+    text::print_number(rt, keys.count as u64)?;
+    text::print_byte(rt, b' ')?;
+    text::print_flag(rt, keys.holds(sought))
 }
 
 // A row of keys: the list of all but the last, and the last.
-pub(crate) fn list(payload: &[u8]) {
+pub(crate) fn list(rt: &impl Print, payload: &[u8]) -> io::Result<()> {
     let len = payload.len();
     if len < KEY_LENGTH || len % KEY_LENGTH != 0 {
-        text::print_byte(b'-');
-        return;
+        return text::print_byte(rt, b'-');
     }
     let last = len - KEY_LENGTH;
-    print_list(&payload[0..last], &payload[last..]);
+    print_list(rt, &payload[0..last], &payload[last..])
 }
