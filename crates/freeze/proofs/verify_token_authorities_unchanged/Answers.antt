@@ -11,12 +11,6 @@ use Rattle.freeze.proofs.verify_token_authorities_unchanged.Goals as goal
 pub loop-i-init : goal.loop-i-init
 loop-i-init c = (omega arith, refl)
 
-pub returns-then-count-i : goal.returns-then-count-i
-returns-then-count-i c =
-    let mints = c.args.mints in
-    let long : length mints.list ≡ 16 = c.well_formed.1.1.1.1.1.0.1.1.0.1.0.1 in
-    sym (sym c.loop-i.invariant.1 ∙ mints_end _ _ _ mints c.loop-i.i (omega arith))
-
 pub returns-then-not-key_frozen : goal.returns-then-not-key_frozen
 returns-then-not-key_frozen c =
     let mints = c.args.mints in
@@ -38,6 +32,12 @@ loop-i-preserved c =
 
 pub returns : goal.returns
 returns c =
+    let mints = c.args.mints in
+    let long : length mints.list ≡ 16 = c.well_formed.1.1.1.1.1.0.1.1.0.1.0.1 in
+    sym (sym c.loop-i.invariant.1 ∙ mints_end _ _ _ mints c.loop-i.i (omega arith))
+
+pub returns-then-count-i : goal.returns-then-count-i
+returns-then-count-i c =
     let mints = c.args.mints in
     let long : length mints.list ≡ 16 = c.well_formed.1.1.1.1.1.0.1.1.0.1.0.1 in
     sym (sym c.loop-i.invariant.1 ∙ mints_end _ _ _ mints c.loop-i.i (omega arith))
