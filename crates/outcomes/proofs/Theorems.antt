@@ -8,7 +8,6 @@ use mathlib.Core.Path.{◌≡◌, ap, refl}
 use native.Mathlib.Omega.{arith}
 use lib.ListN.{get_or}
 use Rattle.std.specs.Borrow.{MutBor}
-use Rattle.number.proofs as number
 use Rattle.number.specs.contracts as number-contracts
 use Rattle.outcomes.specs.Outcome.{OneOutcome}
 

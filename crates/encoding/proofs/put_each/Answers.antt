@@ -8,7 +8,7 @@ use lib.ListN.{length}
 use Rattle.compact.specs.Compact.{most_instructions}
 use Rattle.compact.specs.Entries.{list_of}
 use Rattle.compact.specs.Views.{zero_entry}
-use Rattle.encoding.proofs.Writing.{sets-append, left-all, left_none, Next, next_entry, length-encode}
+use Rattle.encoding.proofs.Writing.{sets-append, left-all, left_none, next_entry, length-encode}
 use Rattle.encoding.proofs.put_each.Goals as goal
 
 pub loop-i-init : goal.loop-i-init

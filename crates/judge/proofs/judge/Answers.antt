@@ -28,8 +28,7 @@ pub judge_after-requires : goal.judge_after-requires
 judge_after-requires c =
     let call : Call = call_of c.args.before.now c.args.after.now c.args.instructions.now c.args.vault.now c.args.slot c.args.lamports_before c.args.lamports_after c.args.gross in
     let vault_is : length call.vault ≡ 32 = omega arith in
-    let before_is : c.cut_places-before_cut.result.answer ≡ answer_of (cut_table call.before) = ap (λ (p : Places). p.answer) c.cut_places-before_cut.ensures ∙ table_answer _ in
-    (
+    let before_is : c.cut_places-before_cut.result.answer ≡ answer_of (cut_table call.before) = ap (λ (p : Places). p.answer) c.cut_places-before_cut.ensures ∙ table_answer _ in (
       vault_is,
       sym (ap accepts before_is) ∙ sym c.accepts.ensures ∙ c.if-not-accepts.false,
       records_of_row _ _ _ c.cut_places-before_cut.ensures c.places_in.ensures,

@@ -75,8 +75,8 @@ loop-i-preserved c =
     let act = action_at c.args.region.now c.action_in-view.result in
     let put : c.if-is_new.mints ≡ with_mint mints act =
     elim c.if-is_new.branch [
-      then-is_new w ↦ w.mints-is ∙ ap (λ (k : Key). record { list = set mints.list mints.count k; count = mints.count + 1 }) w.key_of-key.ensures ∙ sym (mint_new mints act _ its _ looked (sym c.is_new.ensures ∙ w.if-is_new.true))
-    | else-is_new w ↦ w.mints-is ∙ sym (mint_same mints act _ its _ looked (sym c.is_new.ensures ∙ w.if-is_new.false))
+      | then-is_new w ↦ w.mints-is ∙ ap (λ (k : Key). record { list = set mints.list mints.count k; count = mints.count + 1 }) w.key_of-key.ensures ∙ sym (mint_new mints act _ its _ looked (sym c.is_new.ensures ∙ w.if-is_new.true))
+      | else-is_new w ↦ w.mints-is ∙ sym (mint_same mints act _ its _ looked (sym c.is_new.ensures ∙ w.if-is_new.false))
     ] in (
       omega arith,
       c.loop-i.invariant.1,

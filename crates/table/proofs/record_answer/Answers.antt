@@ -1,4 +1,3 @@
-
 use Rattle.table.proofs.record_answer.Goals as goal
 
 -- `table::record_answer` meets its contract, by the cases of the read.
