@@ -1,5 +1,5 @@
-//! The C functions of `libthimbleford.a`, as crates/thimbleford declares them: a
-//! slice is an address and a length. The test `declaration` holds the two
+//! The C functions of `libthimbleford.a`, as crates/thimbleford_c declares them:
+//! a slice is an address and a length. The test `declaration` holds the two
 //! declarations together, and where the archive has another boundary than this
 //! one, nothing of it is called but the function that says so.
 //!

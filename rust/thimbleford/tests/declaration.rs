@@ -2,7 +2,7 @@
 //! looks at names alone: with a parameter swapped or of another width the crate
 //! would build and judge other numbers.
 
-const RATTLE: &str = include_str!("../../../crates/thimbleford/src/lib.rt");
+const RATTLE: &str = include_str!("../../../crates/thimbleford_c/src/lib.rt");
 const BOUNDARY: &str = include_str!("../src/boundary.rs");
 
 /// A function as C sees it: its name, each parameter's name and type, and the
