@@ -164,6 +164,13 @@ unfolding places_of
 table_answer (given l) = refl
 table_answer (refused r) = refl
 
+pub cut_answer : (x : Refusable (List Record)) (p : Places) → p ≡ places_of x → p.answer ≡ answer_of x
+cut_answer x p e = ap (λ (q : Places). q.answer) e ∙ table_answer x
+
+-- what was asked of an answer is told of what it is
+pub asked : {a b : Answer} {t v : Bool} → a ≡ b → t ≡ accepts a → t ≡ v → accepts b ≡ v
+asked is e told = sym (ap accepts is) ∙ sym e ∙ told
+
 -- what is answered to a region that was cut is the answer of its stored form
 pub region_answer : (s : List ℕ) (p : ParsedActions) (row : List ℕ) (a : Answer) → p ≡ parsed_of (cut most_actions s) → row ≡ row_in p
     → a ≡ stored_answer p.answer (actions_in s row) → a ≡ answer_of (stored_actions s)

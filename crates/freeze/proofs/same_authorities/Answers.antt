@@ -6,10 +6,6 @@ use Rattle.number.specs.Number.{Bytes}
 use Rattle.freeze.proofs.Authorities.{owner_changed, delegate_changed, close_authority_decides}
 use Rattle.freeze.proofs.same_authorities.Goals as goal
 
--- both are bytes
-
--- ---- the returns
-
 pub returns-then-not-same_key_at : goal.returns-then-not-same_key_at
 returns-then-not-same_key_at c =
     let bytes-a : Bytes c.args.a.now = λ i. omega (arith, c.type_inv.a i) in

@@ -15,7 +15,7 @@ use Rattle.keys.specs.declared.Keys.{Keys}
 use Rattle.action.specs.Action.{Action}
 use Rattle.account.specs.Record.{Record}
 use Rattle.judge.specs.Views.{checks_from}
-use Rattle.judge.proofs.Steps.{no_rules, rules_unchecked, rules_checked, no_views_settled, region_kept, region_written}
+use Rattle.judge.proofs.Steps.{asked, no_rules, rules_unchecked, rules_checked, no_views_settled, region_kept, region_written}
 use Rattle.judge.proofs.judge_cut.Goals as goal
 
 -- the checks go by the mints that were listed
@@ -45,7 +45,7 @@ returns-then-not-accepts-2 c =
     let checked_is = checked _ _ _ _ _ _ _ _ c.checks_answer-checks.ensures c.listed_mints-mints.ensures in
     let some : 0 < length (actions_in c.args.region.now c.args.actions.now) = rw (length_actions c.args.region.now c.args.actions.now) (omega arith) in
     let refusal = sym c.accepts-2.ensures ∙ c.if-not-accepts-2.true in
-    let passed = sym (ap accepts checked_is) ∙ sym c.accepts.ensures ∙ c.if-not-accepts.false in (
+    let passed = asked checked_is c.accepts.ensures c.if-not-accepts.false in (
       c.limits_answer-limits.ensures ∙ rw c.amounts-amounts.ensures (sym (rules_checked _ _ _ _ _ _ _ some passed)),
       region_kept c.limits_answer-limits.result _ _ refusal,
     )
@@ -54,7 +54,7 @@ pub returns : goal.returns
 returns c =
     let checked_is = checked _ _ _ _ _ _ _ _ c.checks_answer-checks.ensures c.listed_mints-mints.ensures in
     let some : 0 < length (actions_in c.args.region.now c.args.actions.now) = rw (length_actions c.args.region.now c.args.actions.now) (omega arith) in
-    let passed = sym (ap accepts checked_is) ∙ sym c.accepts.ensures ∙ c.if-not-accepts.false in
+    let passed = asked checked_is c.accepts.ensures c.if-not-accepts.false in
     let allowed = accepted_is _ (sym c.accepts-2.ensures ∙ c.if-not-accepts-2.false) in (
       c.of-2.ensures ∙ sym allowed ∙ c.limits_answer-limits.ensures ∙ rw c.amounts-amounts.ensures (sym (rules_checked _ _ _ _ _ _ _ some passed)),
       c.settle.ensures ∙ rw c.amounts-amounts.ensures (region_written _ _ _ c.of-2.ensures),
