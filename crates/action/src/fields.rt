@@ -10,35 +10,28 @@ use crate::{
 };
 use key::KEY_LENGTH;
 
+// The tests of a type are no one function: each is a definition's, as `is_sol` of `charge` and `is_limit` of
+// `limit` are.
+#[tactic(auto, unfolding(crate::specs::Fields::is_token))]
 pub fn is_token(kind: u8) -> bool
     ensures { result ≡ is_token kind }
 {
-    if kind == TOKEN_LIMIT {
-        return true;
-    }
-    if kind == TOKEN_RECURRING_LIMIT {
-        return true;
-    }
-    kind == TOKEN_MAX_PER_TX
+    matches!(kind, TOKEN_LIMIT | TOKEN_RECURRING_LIMIT | TOKEN_MAX_PER_TX)
 }
 
+#[tactic(auto, unfolding(crate::specs::Fields::is_recurring))]
 pub fn is_recurring(kind: u8) -> bool
     ensures { result ≡ is_recurring kind }
 {
-    if kind == SOL_RECURRING_LIMIT {
-        return true;
-    }
-    kind == TOKEN_RECURRING_LIMIT
+    matches!(kind, SOL_RECURRING_LIMIT | TOKEN_RECURRING_LIMIT)
 }
 
 // Whether the slot is past an expiry that is set.
+#[tactic(auto, unfolding(crate::specs::Action::expired))]
 pub fn is_expired(expires: u64, slot: u64) -> bool
     ensures { result ≡ expired expires slot }
 {
-    if expires == 0 {
-        return false;
-    }
-    expires < slot
+    expires != 0 && expires < slot
 }
 
 // The part of a region that is an action's data, or the empty part where it passes the end.
@@ -78,6 +71,7 @@ pub fn mint_length(kind: u8) -> usize
     if is_token(kind) { KEY_LENGTH } else { 0 }
 }
 
+// The first number of some amounts, under the two names that the document has for it.
 pub fn remaining(amounts: &[u8]) -> u64
     ensures { result ≡ remaining_of amounts.now }
 {

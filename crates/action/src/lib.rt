@@ -7,6 +7,9 @@ pub mod fields;
 ghost use Rattle.std.specs.Prelude.{◌≡◌};
 ghost use Rattle.action.specs.Action.{data_length};
 
+// The types stay codes and are no enum: the definitions and theorems over an action take any code
+// (`data_length`, `refusal_of`), and an enum with a variant for the other bytes would be turned back into its
+// code wherever one of them is asked.
 pub const SOL_LIMIT: u8 = 1;
 
 pub const SOL_RECURRING_LIMIT: u8 = 2;
@@ -24,7 +27,7 @@ pub const PROGRAM_WHITELIST: u8 = 10;
 pub const PROGRAM_BLACKLIST: u8 = 11;
 
 // An action of a region: its type's code, its expiry, and where its data starts and how long it is.
-#[derive(Clone, Copy)]
+#[derive(Clone, Copy, Default)]
 pub struct ActionView {
     pub kind: u8,
     pub expires: u64,

@@ -5,10 +5,13 @@ use mathlib.Core.Bool.{Bool, true, false}
 use mathlib.Core.List.{List, [], ◌∷◌, ◌++◌}
 use Prim.Native.Nat.{ℕ, ◌<◌}
 use native.Mathlib.Omega.{arith}
-use borrow.Author.Tests.{ne_eqb, eqb-true}
-use Rattle.answer.specs.declared.Answer.{Answer}
+use borrow.Author.Tests.{ne_eqb}
+use lib.Dec.{eqb}
+use Rattle.answer.specs.declared.Refusal.{Refusal}
 use Rattle.answer.specs.Each.{Each}
-use Rattle.answer.specs.Numbers.{answer, accepted, accepts, first_refusal, refuse_if}
+use Rattle.answer.specs.declared.Refusal.TheVariants.{ActionBufferInvalid, ActionWhitelistBlacklistConflict, InvalidInstructionData, ActionProgramNotWhitelisted, ActionProgramBlacklisted, ActionSolMaxPerTxExceeded, ActionSolLimitExceeded, ActionSolRecurringLimitExceeded, ActionTokenMaxPerTxExceeded, ActionTokenLimitExceeded, ActionTokenRecurringLimitExceeded, SessionTokenAuthorityChanged, BadTable, NoRoom, BadRegion, NotEncodable}
+use Rattle.answer.specs.Numbers.{Answer, number_of, refusal_number, accepted, accepts, first_refusal, refuse_if}
+use Rattle.answer.specs.Refusable.{Ok, Err}
 
 pub first_passes : (a : Answer) (l : List Answer) → accepts a ≡ true → first_refusal (a ∷ l) ≡ first_refusal l
 unfolding first_refusal
@@ -18,18 +21,26 @@ pub first_refuses : (a : Answer) (l : List Answer) → accepts a ≡ false → f
 unfolding first_refusal
 first_refuses a l e = rw (e, first_refusal)
 
-pub rule_holds : (broken : Bool) (n : ℕ) (l : List Answer) → broken ≡ false → first_refusal (refuse_if broken n ∷ l) ≡ first_refusal l
-rule_holds broken n l e = rw e (first_passes (answer accepted) l refl)
+-- the same, of an answer that is known
+pub first_ok : (a : Answer) (l : List Answer) {u : Unit {0}} → a ≡ Ok u → first_refusal (a ∷ l) ≡ first_refusal l
+first_ok a l e = rw e (first_passes (Ok tt) l refl)
 
-pub rule_broken : (broken : Bool) (n : ℕ) (l : List Answer) → 0 < n → broken ≡ true → first_refusal (refuse_if broken n ∷ l) ≡ answer n
-rule_broken broken n l pos e = rw e (first_refuses (answer n) l (ne_eqb n 0 (λ z. omega arith)))
+pub first_err : (a : Answer) (l : List Answer) {r : Refusal} → a ≡ Err r → first_refusal (a ∷ l) ≡ Err r
+first_err a l {r = r} e = rw e (first_refuses (Err r) l refl)
 
-pub no_rule : first_refusal [] ≡ answer accepted
+pub rule_holds : (broken : Bool) (r : Refusal) (l : List Answer) → broken ≡ false → first_refusal (refuse_if broken r ∷ l) ≡ first_refusal l
+rule_holds broken r l e = rw e (first_passes (Ok tt) l refl)
+
+pub rule_broken : (broken : Bool) (r : Refusal) (l : List Answer) → broken ≡ true → first_refusal (refuse_if broken r ∷ l) ≡ Err r
+rule_broken broken r l e = rw e (first_refuses (Err r) l refl)
+
+pub no_rule : first_refusal [] ≡ Ok tt
 unfolding first_refusal
 no_rule = refl
 
-pub accepted_is : (a : Answer) → accepts a ≡ true → a ≡ answer accepted
-accepted_is a e = ap answer (eqb-true a.number 0 e)
+pub accepted_is : (a : Answer) → accepts a ≡ true → a ≡ Ok tt
+accepted_is (Ok tt) e = refl
+accepted_is (Err r) e = absurd (let n : ◌≡◌ {A = ℕ} 0 1 = cc in omega arith)
 
 pub only : (a : Answer) → first_refusal (a ∷ []) ≡ a
 only a = go (accepts a) refl
@@ -40,7 +51,7 @@ only a = go (accepts a) refl
 
 -- the first refusal of two lists
 pub first-append : (xs ys : List Answer) → first_refusal (xs ++ ys) ≡ first_refusal (first_refusal xs ∷ first_refusal ys ∷ [])
-first-append [] ys = sym (ap (λ (a : Answer). first_refusal (a ∷ first_refusal ys ∷ [])) no_rule ∙ first_passes (answer accepted) _ refl ∙ only (first_refusal ys))
+first-append [] ys = sym (ap (λ (a : Answer). first_refusal (a ∷ first_refusal ys ∷ [])) no_rule ∙ first_passes (Ok tt) _ refl ∙ only (first_refusal ys))
 first-append (a ∷ xs) ys = go (accepts a) refl (first-append xs ys)
   where
     go : (t : Bool) → accepts a ≡ t → first_refusal (xs ++ ys) ≡ first_refusal (first_refusal xs ∷ first_refusal ys ∷ [])
@@ -61,3 +72,27 @@ each_accepts (a ∷ l) h = go (each_accepts l) (accepts a) refl
     go rest true e = (e, rest (ap accepts (sym (first_passes a l e)) ∙ h))
     go rest false e =
         absurd (let z : ◌≡◌ {A = Bool} true false = sym h ∙ ap accepts (first_refuses a l e) ∙ e in let n : ◌≡◌ {A = ℕ} 0 1 = cc in omega arith)
+
+-- a refusal's number is not that of acceptance
+pub refusal_above : (r : Refusal) → 0 < refusal_number r
+refusal_above ActionBufferInvalid = omega arith
+refusal_above ActionWhitelistBlacklistConflict = omega arith
+refusal_above InvalidInstructionData = omega arith
+refusal_above ActionProgramNotWhitelisted = omega arith
+refusal_above ActionProgramBlacklisted = omega arith
+refusal_above ActionSolMaxPerTxExceeded = omega arith
+refusal_above ActionSolLimitExceeded = omega arith
+refusal_above ActionSolRecurringLimitExceeded = omega arith
+refusal_above ActionTokenMaxPerTxExceeded = omega arith
+refusal_above ActionTokenLimitExceeded = omega arith
+refusal_above ActionTokenRecurringLimitExceeded = omega arith
+refusal_above SessionTokenAuthorityChanged = omega arith
+refusal_above BadTable = omega arith
+refusal_above NoRoom = omega arith
+refusal_above BadRegion = omega arith
+refusal_above NotEncodable = omega arith
+
+-- an answer accepts where its number is that of acceptance
+pub accepts_by_number : (a : Answer) → eqb (number_of a) accepted ≡ accepts a
+accepts_by_number (Ok u) = refl
+accepts_by_number (Err r) = ne_eqb (refusal_number r) 0 (λ z. omega (arith, refusal_above r))

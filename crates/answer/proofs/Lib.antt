@@ -1,3 +1,4 @@
+pub mod Chains
 pub mod Each
 pub mod Laws
 pub mod Refusing

@@ -1,12 +1,12 @@
 -- What gives a value or refuses.
 -- Assumes nothing.
-use Rattle.answer.specs.declared.Answer.{Answer}
+pub use Rattle.std.specs.Prelude.{Result, Ok, Err}
+use Rattle.answer.specs.declared.Refusal.{Refusal}
 
-pub data Refusable (A : Type 0) : Type 0 where
-  given : A → Refusable A
-  refused : Answer → Refusable A
+abbrev pub Refusable : Type 0 → Type 0
+Refusable A = Result A Refusal
 
 -- a value, if given, changed by f
 abbrev pub change : {A B : Type 0} → (A → B) → Refusable A → Refusable B
-change f (given a) = given (f a)
-change f (refused r) = refused r
+change f (Ok a) = Ok (f a)
+change f (Err r) = Err r

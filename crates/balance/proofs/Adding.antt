@@ -1,23 +1,22 @@
 -- Laws of balances as the code goes, from the last record to the first.
 -- Assumes nothing.
-use mathlib.Core.Path.{◌≡◌, refl, sym}
-use mathlib.Core.Bool.{Bool, true, false, cond, and-false}
-use mathlib.Core.List.{List, [], ◌∷◌, ◌++◌}
-use Prim.Native.Nat.{ℕ, suc, ◌+◌, ◌-◌, ◌/◌, ◌^◌, ◌<◌, ◌≤◌}
+use mathlib.Core.Path.{◌≡◌, sym, ap, ◌∙◌}
+use mathlib.Core.Bool.{true, false, and-false}
+use mathlib.Core.List.{List, [], ◌∷◌, ◌++◌, map, append_assoc, append-nil}
+use Prim.Native.Nat.{ℕ, ◌+◌, ◌^◌, ◌<◌}
 use native.Mathlib.Omega.{arith}
-use lib.ListN.{length, get_or, drop, drop_of_length-le}
 use Rattle.number.specs.Number.{capped_sum, highest}
 use Rattle.key.specs.Key.{same_key}
+use Rattle.std.specs.List.{fold}
 use Rattle.account.specs.declared.RecordView.{RecordView}
 use Rattle.account.specs.Record.{Record}
-use Rattle.account.specs.Views.{record_at, record_views, records_in}
-use Rattle.account.proofs.Views.{records_step}
+use Rattle.account.specs.Views.{record_at, records_in}
 use Rattle.token.specs.Tokens.{mint_of, amount_of, is_counted}
 use Rattle.balance.specs.Balance.{share, holdings, balance}
 
 -- a total and what the record adds to it
 module _ (r : Record) (vault mint : List ℕ) (total : ℕ) where
-  stays : total < 2 ^ 64 → share vault mint r ≡ 0 → capped_sum total (share vault mint r) ≡ total
+  pub stays : total < 2 ^ 64 → share vault mint r ≡ 0 → capped_sum total (share vault mint r) ≡ total
   unfolding capped_sum highest
   stays fits e = rw e (omega arith)
 
@@ -33,41 +32,30 @@ module _ (r : Record) (vault mint : List ℕ) (total : ℕ) where
   unfolding share
   grows_counted c m = rw (c, m)
 
-  pub counted_adds : total < 2 ^ 64 → is_counted vault r ≡ true → cond (same_key (mint_of r) mint) (capped_sum total (amount_of r)) total ≡ capped_sum total (share vault mint r)
-  counted_adds fits c = go (same_key (mint_of r) mint) refl
-    where
-      go : (t : Bool) → same_key (mint_of r) mint ≡ t → cond t (capped_sum total (amount_of r)) total ≡ capped_sum total (share vault mint r)
-      go true e = sym (grows_counted c e)
-      go false e = sym (stays_other_mint fits e)
-
 module _ (vault mint : List ℕ) where
   pub holdings-append : (l m : List Record) → holdings vault mint (l ++ m) ≡ holdings vault mint l + holdings vault mint m
   unfolding holdings
   holdings-append [] m = omega arith
   holdings-append (r ∷ l) m = rw (holdings-append l m) (omega arith)
 
-  pub balance_none : (l : List Record) (i : ℕ) → length l ≤ i → balance vault mint (drop i l) ≡ 0
-  unfolding balance holdings
-  balance_none l i h = rw (drop_of_length-le l h) (omega arith)
-
-  pub balance_cons : (r : Record) (l : List Record) → balance vault mint (r ∷ l) ≡ capped_sum (balance vault mint l) (share vault mint r)
+  pub balance_push : (l : List Record) (r : Record) → balance vault mint (l ++ (r ∷ [])) ≡ capped_sum (balance vault mint l) (share vault mint r)
   unfolding balance holdings capped_sum
-  balance_cons r l = omega arith
+  balance_push l r = rw (holdings-append l (r ∷ [])) (omega arith)
 
-  pub balance_fits : (l : List Record) → balance vault mint l < 2 ^ 64
-  unfolding balance highest
-  balance_fits l = omega arith
+  pub balance_nil : balance vault mint [] ≡ 0
+  unfolding balance holdings
+  balance_nil = omega arith
 
-  -- the balance from a record on
-  pub balance_step : (s row : List ℕ) (i : ℕ) (d : RecordView) → i < length row / 2
-      → balance vault mint (drop i (records_in s row))
-      ≡ capped_sum (balance vault mint (drop (suc i) (records_in s row))) (share vault mint (record_at s (get_or (record_views row) i d)))
-  balance_step s row i d inside = rw (records_step s row i d inside) (balance_cons _ _)
+  -- the fold over some records on top of those before them
+  fold_onto : (s : List ℕ) (l : List Record) (vs : List RecordView) (total : ℕ) → total ≡ balance vault mint l
+      → fold (λ (t : ℕ) (v : RecordView). capped_sum t (share vault mint (record_at s v))) total vs ≡ balance vault mint (l ++ map (record_at s) vs)
+  fold_onto s l [] total e = e ∙ ap (balance vault mint) (sym (append-nil l))
+  fold_onto s l (v ∷ vs) total e =
+      let r = record_at s v in
+      fold_onto s (l ++ (r ∷ [])) vs _ (ap (λ (t : ℕ). capped_sum t (share vault mint r)) e ∙ sym (balance_push l r))
+      ∙ ap (balance vault mint) (append_assoc l (r ∷ []) (map (record_at s) vs))
 
-  -- and from the one before a place on
-  pub balance_before : (s row : List ℕ) (i : ℕ) (d : RecordView) → 0 < i → i ≤ length row / 2
-      → balance vault mint (drop (i - 1) (records_in s row))
-      ≡ capped_sum (balance vault mint (drop i (records_in s row))) (share vault mint (record_at s (get_or (record_views row) (i - 1) d)))
-  balance_before s row i d some inside =
-      let place : suc (i - 1) ≡ i = omega arith in
-      rw place at (balance_step s row (i - 1) d (omega arith))
+  pub balance_fold : (s : List ℕ) (vs : List RecordView)
+      → fold (λ (t : ℕ) (v : RecordView). capped_sum t (share vault mint (record_at s v))) 0 vs ≡ balance vault mint (records_in s vs)
+  unfolding records_in
+  balance_fold s vs = fold_onto s [] vs 0 (sym balance_nil)

@@ -1,104 +1,128 @@
--- Laws of the totals of the listed mints, as the walk goes: from the last record to the first, and for each of them mint by mint.
+-- Laws of the totals of the listed mints, as the walk goes: record by record, and for each of them mint by mint.
 -- Assumes nothing.
-use mathlib.Core.Path.{◌≡◌, refl, sym, ap, ◌∙◌}
-use mathlib.Core.Bool.{Bool, true, false, cond}
-use mathlib.Core.List.{List, [], ◌∷◌, ◌++◌, map, map_congr_left}
-use Prim.Native.Nat.{ℕ, suc, ◌+◌, ◌-◌, ◌/◌, ◌<◌, ◌≤◌}
+use mathlib.Core.Path.{◌≡◌, refl, sym, ap, ap₂, ◌∙◌}
+use mathlib.Core.Bool.{Bool, true, false}
+use mathlib.Core.List.{List, [], ◌∷◌, ◌++◌, map, map-append}
+use Prim.Native.Nat.{ℕ, zero, suc, ◌-◌, ◌^◌, ◌<◌}
 use native.Mathlib.Omega.{arith}
-use lib.ListN.{length, get_or, take, drop, set, replicate, length-take, length-map, drop_of_length-le, get_or-map, replicate-append-replicate}
-use lib.Seq.{take_all, take-suc, drop-cons, set_at, get_or_at, append_snoc}
+use lib.ListN.{length, get_or, take, set, replicate}
 use Rattle.number.specs.Number.{capped_sum}
+use Rattle.std.proofs.lemmas.List.{set-get_or}
+use lib.Seq.{take-nil, take-suc}
 use Rattle.key.specs.Key.{same_key}
+use Rattle.key.proofs.Laws.{same_key_eq}
 use Rattle.account.specs.declared.RecordView.{RecordView}
-use Rattle.account.specs.Views.{record_at, record_views, records_in}
-use Rattle.account.proofs.Views.{length_records}
+use Rattle.account.specs.Record.{Record}
+use Rattle.account.specs.Views.{record_at, records_in}
 use Rattle.token.specs.Tokens.{mint_of, amount_of, is_counted}
-use Rattle.balance.specs.Balance.{balance}
-use Rattle.balance.specs.Views.{sums_of}
-use Rattle.balance.proofs.Adding.{balance_none, balance_fits, balance_step, stays_not_counted, counted_adds}
+use Rattle.balance.specs.Balance.{share, balance}
+use Rattle.balance.specs.Views.{sums_of, with_record}
+use Rattle.balance.proofs.Adding.{balance_nil, balance_push, stays_not_counted, stays_other_mint, grows_counted}
 
-map-zero : (f : List ℕ → ℕ) → ((k : List ℕ) → f k ≡ 0) → (ks : List (List ℕ)) → map f ks ≡ replicate (length ks) 0
-map-zero f zeros [] = refl
-map-zero f zeros (k ∷ ks) = rw (zeros k, map-zero f zeros ks)
+same_key_turned : (a b : List ℕ) → same_key a b ≡ same_key b a
+same_key_turned a b = go (same_key a b) (same_key b a) refl refl
+  where
+    go : (t u : Bool) → same_key a b ≡ t → same_key b a ≡ u → same_key a b ≡ same_key b a
+    go true u e f = let same = same_key_eq a b e in ap₂ same_key same (sym same)
+    go false true e f = let same = same_key_eq b a f in ap₂ same_key (sym same) same
+    go false false e f = e ∙ sym f
 
--- a record has no more turns than there are mints
-pub turns_few : (counted : Bool) (n turns : ℕ) → turns ≡ cond counted n 0 → turns ≤ n
-turns_few true n turns e = omega arith
-turns_few false n turns e = omega arith
+module _ (vault : List ℕ) (r : Record) where
+  -- a record that is not counted adds nothing
+  pub with_none : is_counted vault r ≡ false → (ks : List (List ℕ)) (ts : List ℕ) → ((i : ℕ) → get_or ts i 0 < 2 ^ 64) → with_record vault r ks ts ≡ ts
+  unfolding with_record
+  with_none c [] ts fit = refl
+  with_none c (k ∷ ks) [] fit = refl
+  with_none c (k ∷ ks) (t ∷ ts) fit =
+      rw (stays_not_counted r vault k t (fit 0) c, with_none c ks ts (λ i. fit (suc i)))
 
--- and where it has one it is counted
-pub turn_counted : (counted : Bool) (n turns j : ℕ) → turns ≡ cond counted n 0 → j < turns → counted ≡ true
-turn_counted true n turns j e h = refl
-turn_counted false n turns j e h = absurd (omega arith)
+  -- what stands past the last mint stays
+  with_rest : (ks : List (List ℕ)) (ts : List ℕ) (j : ℕ) → get_or (with_record vault r (take j ks) ts) j 0 ≡ get_or ts j 0
+  unfolding with_record
+  with_rest [] ts j = rw (take-nil {A = List ℕ} j)
+  with_rest (k ∷ ks) ts zero = refl
+  with_rest (k ∷ ks) [] (suc j) = refl
+  with_rest (k ∷ ks) (t ∷ ts) (suc j) = with_rest ks ts j
 
-module _ (vault s row : List ℕ) (ks : List (List ℕ)) where
-  -- a mint's balance over the records from i on
-  abbrev from : ℕ → List ℕ → ℕ
-  from i k = balance vault k (drop i (records_in s row))
+  -- one mint more
+  pub with_next : (ks : List (List ℕ)) (ts : List ℕ) (j : ℕ) (d : List ℕ) → j < length ks → j < length ts
+      → with_record vault r (take (suc j) ks) ts ≡ set (with_record vault r (take j ks) ts) j (capped_sum (get_or (with_record vault r (take j ks) ts) j 0) (share vault (get_or ks j d) r))
+  unfolding with_record
+  with_next [] ts j d h room = absurd (omega arith)
+  with_next (k ∷ ks) [] j d h room = absurd (omega arith)
+  with_next (k ∷ ks) (t ∷ ts) zero d h room = refl
+  with_next (k ∷ ks) (t ∷ ts) (suc j) d h room = ap (λ (l : List ℕ). capped_sum t (share vault k r) ∷ l) (with_next ks ts j d (omega arith) (omega arith))
 
-  -- zeros past the last mint
-  abbrev rest : List ℕ
-  rest = replicate (16 - length ks) 0
+  module _ (c : is_counted vault r ≡ true) (ks : List (List ℕ)) (ts : List ℕ) (j : ℕ) (d : List ℕ) (h : j < length ks) (room : j < length ts) where
+    -- a mint that the counted record has
+    pub with_more : same_key (get_or ks j d) (mint_of r) ≡ true → (now : List ℕ) → now ≡ with_record vault r (take j ks) ts
+        → set now j (capped_sum (get_or now j 0) (amount_of r)) ≡ with_record vault r (take (suc j) ks) ts
+    with_more same now e =
+        rw (e, with_next ks ts j d h room) (ap (set (with_record vault r (take j ks) ts) j) (sym (grows_counted r vault (get_or ks j d) _ c (same_key_turned _ _ ∙ same))))
 
-  -- the totals over the records from i on
-  abbrev pub laid : ℕ → List ℕ
-  laid i = map (from i) ks ++ rest
+    -- and another one
+    pub with_same : same_key (get_or ks j d) (mint_of r) ≡ false → (now : List ℕ) → now ≡ with_record vault r (take j ks) ts → get_or ts j 0 < 2 ^ 64
+        → now ≡ with_record vault r (take (suc j) ks) ts
+    with_same other now e fits =
+        let fit : get_or (with_record vault r (take j ks) ts) j 0 < 2 ^ 64 = rw (with_rest ks ts j) fits in
+        rw (with_next ks ts j d h room, stays_other_mint r vault (get_or ks j d) _ fit (same_key_turned _ _ ∙ other)) (e ∙ sym (set-get_or (with_record vault r (take j ks) ts) j 0))
 
-  -- where those of the first j mints have record i, and the others not yet
-  abbrev pub partly : ℕ → ℕ → List ℕ
-  partly i j = take j (map (from i) ks) ++ (drop j (map (from (suc i)) ks) ++ rest)
+-- the first n sums, and zeros past the last
+abbrev front : ℕ → List ℕ → List ℕ
+front n xs = take n xs ++ replicate (n - length xs) 0
 
-  pub none_laid : (i : ℕ) → length row / 2 ≤ i → length ks ≤ 16 → replicate 16 0 ≡ laid i
-  none_laid i past room =
-      let long = length_records s row in
-      let all : length ks + (16 - length ks) ≡ 16 = omega arith in
-      let zeros = map-zero (from i) (λ (k : List ℕ). balance_none vault k (records_in s row) i (omega arith)) ks in
-      sym (rw (zeros, replicate-append-replicate {A = ℕ} (length ks) (16 - length ks) 0, all))
+front_none : (x : ℕ) (xs : List ℕ) → front 0 (x ∷ xs) ≡ []
+front_none x xs =
+    let none : 0 - length (x ∷ xs) ≡ 0 = omega arith in
+    rw none
 
-  module _ (i j : ℕ) (d : List ℕ) (inside : j < length ks) where
-    here : length (take j (map (from i) ks)) ≡ j
-    here = simp (length-take, length-map) (omega arith)
+front_more : (n x : ℕ) (xs : List ℕ) → front (suc n) (x ∷ xs) ≡ x ∷ front n xs
+front_more n x xs =
+    let less : suc n - length (x ∷ xs) ≡ n - length xs = omega arith in
+    rw less
 
-    next : drop j (map (from (suc i)) ks) ≡ from (suc i) (get_or ks j d) ∷ drop (suc j) (map (from (suc i)) ks)
-    next =
-        let there : j < length (map (from (suc i)) ks) = simp length-map inside in
-        rw (drop-cons (map (from (suc i)) ks) j (from (suc i) d) there, get_or-map (from (suc i)) ks j d)
+module _ (vault : List ℕ) where
+  -- a mint's balance over some records
+  abbrev of : List Record → List ℕ → ℕ
+  of l k = balance vault k l
 
-    total_at : get_or (partly i j) j 0 ≡ from (suc i) (get_or ks j d)
-    total_at = rw next (get_or_at (take j (map (from i) ks)) _ _ 0 j here)
+  front_zeros : (n : ℕ) (ks : List (List ℕ)) → front n (map (of []) ks) ≡ replicate n 0
+  front_zeros n [] =
+      let all : n - 0 ≡ n = omega arith in
+      rw (take-nil {A = ℕ} n, all)
+  front_zeros zero (k ∷ ks) = front_none (of [] k) (map (of []) ks)
+  front_zeros (suc n) (k ∷ ks) = rw (front_more n (of [] k) (map (of []) ks), balance_nil vault k, front_zeros n ks)
 
-    total_laid : (x : ℕ) → x ≡ from i (get_or ks j d) → set (partly i j) j x ≡ partly i (suc j)
-    total_laid x e =
-        let there : j < length (map (from i) ks) = simp length-map inside in
-        let this : get_or (map (from i) ks) j (from i d) ≡ x = get_or-map (from i) ks j d ∙ sym e in
-        rw (next, take-suc (map (from i) ks) j (from i d) there, this, append_snoc) (set_at (take j (map (from i) ks)) _ _ x j here)
+  front_push : (n : ℕ) (ks : List (List ℕ)) (l : List Record) (r : Record)
+      → with_record vault r ks (front n (map (of l) ks)) ≡ front n (map (of (l ++ (r ∷ []))) ks)
+  unfolding with_record
+  front_push n [] l r = refl
+  front_push zero (k ∷ ks) l r =
+      ap (with_record vault r (k ∷ ks)) (front_none (of l k) (map (of l) ks))
+      ∙ sym (front_none (of (l ++ (r ∷ [])) k) (map (of (l ++ (r ∷ []))) ks))
+  front_push (suc n) (k ∷ ks) l r =
+      ap (with_record vault r (k ∷ ks)) (front_more n (of l k) (map (of l) ks))
+      ∙ ap₂ (λ (x : ℕ) (xs : List ℕ). x ∷ xs) (sym (balance_push vault k l r)) (front_push n ks l r)
+      ∙ sym (front_more n (of (l ++ (r ∷ [])) k) (map (of (l ++ (r ∷ []))) ks))
 
-    -- one turn of a counted record
-    pub turn_laid : (v : RecordView) → i < length row / 2 → is_counted vault (record_at s (get_or (record_views row) i v)) ≡ true
-        → (key : List ℕ) → key ≡ get_or ks j d → (total : ℕ) → total ≡ get_or (partly i j) j 0
-        → set (partly i j) j (cond (same_key (mint_of (record_at s (get_or (record_views row) i v))) key) (capped_sum total (amount_of (record_at s (get_or (record_views row) i v)))) total)
-        ≡ partly i (suc j)
-    turn_laid v there counted key this total e =
-        total_laid _ (rw (e, total_at, this) (counted_adds _ vault _ _ (balance_fits vault _ _) counted ∙ sym (balance_step vault _ s row i v there)))
-
-  -- after the turns of record i its totals are laid: all mints have it, or it adds to none
-  pub record_laid : (i : ℕ) (d : RecordView) → i < length row / 2 → (turns : ℕ)
-      → turns ≡ cond (is_counted vault (record_at s (get_or (record_views row) i d))) (length ks) 0 → partly i turns ≡ laid i
-  record_laid i d inside turns e = go (is_counted vault (record_at s (get_or (record_views row) i d))) refl
-    where
-      go : (t : Bool) → is_counted vault (record_at s (get_or (record_views row) i d)) ≡ t → partly i turns ≡ laid i
-      go true c =
-          let all : turns ≡ length ks = e ∙ ap (λ (t : Bool). cond t (length ks) 0) c in
-          let size : length (map (from i) ks) ≡ length ks = simp length-map in
-          let size_next : length (map (from (suc i)) ks) ≡ length ks = simp length-map in
-          rw (take_all turns (map (from i) ks) (omega arith), drop_of_length-le (map (from (suc i)) ks) {i = turns} (omega arith))
-      go false c =
-          let none : turns ≡ 0 = e ∙ ap (λ (t : Bool). cond t (length ks) 0) c in
-          let same = map_congr_left {f = from (suc i)} {g = from i} {l = ks} (λ k m. sym (balance_step vault k s row i d inside ∙ stays_not_counted _ vault k _ (balance_fits vault k _) c)) in
-          rw (none, same)
-
-  pub all_laid : length ks ≤ 16 → record { list = laid 0 } ≡ sums_of (map (λ (k : List ℕ). balance vault k (records_in s row)) ks)
+  -- the totals over no records
+  pub none_laid : (ks : List (List ℕ)) → replicate 16 0 ≡ (sums_of (map (λ (k : List ℕ). balance vault k []) ks)).list
   unfolding sums_of
-  all_laid room =
-      let size : length (map (from 0) ks) ≡ length ks = simp length-map in
-      rw (take_all 16 (map (from 0) ks) (omega arith), size)
+  none_laid ks = sym (front_zeros 16 ks)
+
+  -- and over one record more
+  pub laid_push : (ks : List (List ℕ)) (l : List Record) (r : Record)
+      → with_record vault r ks (sums_of (map (λ (k : List ℕ). balance vault k l) ks)).list ≡ (sums_of (map (λ (k : List ℕ). balance vault k (l ++ (r ∷ []))) ks)).list
+  unfolding sums_of
+  laid_push ks l r = front_push 16 ks l r
+
+-- the totals over the records that the first i views name
+module _ (vault s : List ℕ) (ks : List (List ℕ)) (views : List RecordView) where
+  abbrev pub laid : ℕ → List ℕ
+  laid i = (sums_of (map (λ (k : List ℕ). balance vault k (records_in s (take i views))) ks)).list
+
+  pub laid_next : (i : ℕ) (d : RecordView) → i < length views → with_record vault (record_at s (get_or views i d)) ks (laid i) ≡ laid (suc i)
+  laid_next i d h =
+      let more : records_in s (take (suc i) views) ≡ records_in s (take i views) ++ (record_at s (get_or views i d) ∷ []) = unfold records_in in rw (take-suc views i d h, map-append (record_at s) (take i views) (get_or views i d ∷ [])) in
+      laid_push vault ks (records_in s (take i views)) (record_at s (get_or views i d))
+      ∙ ap (λ (l : List Record). (sums_of (map (λ (k : List ℕ). balance vault k l) ks)).list) (sym more)

@@ -6,11 +6,12 @@ use mathlib.Core.List.{List, [], ◌∷◌, ◌++◌}
 use mathlib.Core.Option.{Option, none, some}
 use Prim.Native.Nat.{ℕ, ◌+◌, ◌<◌, ◌≤◌}
 use native.Mathlib.Omega.{arith}
-use borrow.Author.Tests.{eqb-true, ne_eqb}
-use lib.Dec.{lit≤}
+use borrow.Author.Tests.{ne_eqb}
+use lib.Dec.{lit≤, eqb}
 use lib.ListN.{length}
-use Rattle.answer.specs.declared.Answer.{Answer}
-use Rattle.answer.specs.Numbers.{answer, accepted, accepts}
+use Rattle.answer.specs.Numbers.{Answer, number_of, accepts, accepted}
+use Rattle.answer.specs.Refusable.{Refusable, Ok, Err}
+use Rattle.answer.proofs.Laws.{accepted_is}
 use Rattle.number.specs.Number.{floored_difference, highest}
 use Rattle.action.specs.Fields.{remaining, limit}
 use Rattle.creation.specs.Creation.{creation}
@@ -18,7 +19,7 @@ use Rattle.creation.specs.NamedValues.{a3, created as creates, named_values as c
 use Rattle.creation.proofs.NamedValues.{as_named as creation_as_named}
 use Rattle.compact.specs.declared.ParsedInstructions.{ParsedInstructions}
 use Rattle.compact.specs.Views.{reading}
-use Rattle.compact.specs.NamedValues.{c2, read, named_values as compact_values}
+use Rattle.compact.specs.NamedValues.{c2, read, reading_numbers, named_values as compact_values}
 use Rattle.compact.proofs.NamedValues.{as_named as compact_as_named}
 use Rattle.outflow.specs.Outflow.{decrease}
 use Rattle.judge.specs.Judge.{Call, region_after}
@@ -97,7 +98,7 @@ what_judges_as_ours_keeps_the_sentence judge as-ours =
 
 -- a judge that answers one call otherwise does not judge as ours
 pub what_answers_otherwise_is_not_ours : (judge : Judge) (region : List ℕ) (call : Call) → FallsBy region call judge → JudgesAsOurs judge → ⊥
-what_answers_otherwise_is_not_ours judge region call falls as-ours = falls 0 (ap (λ (said : Judgment). said.answer.number) (as-ours 0 region call))
+what_answers_otherwise_is_not_ours judge region call falls as-ours = falls 0 (ap (λ (said : Judgment). said.number) (as-ours 0 region call))
 
 -- refusing everything keeps the sentence
 module _ (number : ℕ) (refuses : 0 < number) where
@@ -110,7 +111,7 @@ module _ (number : ℕ) (refuses : 0 < number) where
   unfolding taken_where
   takes_nothing test fund [] region = refl
   takes_nothing test fund (call ∷ calls) region =
-      let not_accepted : accepts (answer number) ≡ false = ne_eqb number accepted (λ e. omega arith) in
+      let not_accepted : eqb number accepted ≡ false = ne_eqb number accepted (λ e. omega arith) in
       let rest = takes_nothing test fund calls region in
       ap (λ (b : Bool). cond (b && test region) (taken_by fund call) 0 + taken_where test fund (refusing number) region calls) not_accepted
       ∙ (let z : 0 + taken_where test fund (refusing number) region calls ≡ 0 = omega (arith, rest) in z)
@@ -147,18 +148,30 @@ module _ (writes : ℕ → List ℕ → Call → List ℕ) where
 
 -- creation that accepts everything
 pub creation_that_accepts_everything_falls_by_A3 : (check : List ℕ → Answer) → ((region : List ℕ) → accepts (check region) ≡ true)
-    → (check a3).number ≡ (creation a3).number → ⊥
+    → number_of (check a3) ≡ number_of (creation a3) → ⊥
 unfolding creation_values creates
 creation_that_accepts_everything_falls_by_A3 check accepts-all e =
     let is = number_is creation_as_named.1.1.1.1.0 in
-    let accepts_a3 : (check a3).number ≡ accepted = eqb-true _ _ (accepts-all a3) in
+    let accepts_a3 : number_of (check a3) ≡ accepted = ap number_of (accepted_is (check a3) (accepts-all a3)) in
     omega (arith, e, is, accepts_a3)
 
 -- a reader whose count of consumed bytes is made up
-pub a_made_up_consumed_count_falls_by_C2 : (reader : List ℕ → ParsedInstructions) → ((reader c2).consumed ≡ 8 → ⊥) → reader c2 ≡ reading c2 → ⊥
-unfolding compact_values read
-a_made_up_consumed_count_falls_by_C2 reader made_up e =
-    made_up (ap (λ (parsed : ParsedInstructions). parsed.consumed) e ∙ number_is (rest_is compact_as_named.1.0))
+second : List ℕ → ℕ
+second [] = 0
+second (a ∷ []) = 0
+second (a ∷ b ∷ l) = b
+
+pub a_made_up_consumed_count_falls_by_C2 : (reader : List ℕ → Refusable ParsedInstructions) → ((parsed : ParsedInstructions) → reader c2 ≡ Ok parsed → parsed.consumed ≡ 8 → ⊥)
+    → reader c2 ≡ reading c2 → ⊥
+unfolding compact_values read reading_numbers second
+a_made_up_consumed_count_falls_by_C2 reader made_up e = go (reading c2) refl
+  where
+    eight : second (reading_numbers (reading c2)) ≡ 8
+    eight = ap second compact_as_named.1.0
+
+    go : (r : Refusable ParsedInstructions) → reading c2 ≡ r → ⊥
+    go (Ok parsed) is = made_up parsed (e ∙ is) (ap (λ (x : Refusable ParsedInstructions). second (reading_numbers x)) (sym is) ∙ eight)
+    go (Err q) is = let z : ◌≡◌ {A = ℕ} 0 8 = ap (λ (x : Refusable ParsedInstructions). second (reading_numbers x)) (sym is) ∙ eight in omega arith
 
 -- ---- what breaks its first half
 

@@ -11,7 +11,7 @@ use lib.Dec.{eqb}
 use lib.ListN.{length}
 use Rattle.answer.specs.Each.{Each}
 use Rattle.answer.specs.Numbers.{accepts}
-use Rattle.answer.specs.Refusable.{given}
+use Rattle.answer.specs.Refusable.{Ok}
 use Rattle.number.specs.Number.{Bytes, highest}
 use Rattle.key.specs.Key.{same_key}
 use Rattle.key.proofs.Laws.{same_key_eq}
@@ -40,7 +40,7 @@ use Rattle.bursar.specs.Limits.{region_actions, speaks_of, first_that}
 pub record Stands (region : List ℕ) : Type 0 where
   pub bytes : Bytes region
   pub actions : List Action
-  pub stored : stored_actions region ≡ given actions
+  pub stored : stored_actions region ≡ Ok actions
 
 -- each action after an accepted call
 abbrev pub after_call : Call → Action → Action

@@ -8,8 +8,9 @@ use Prim.Native.Nat.{ℕ, ◌+◌, ◌<◌, ◌≤◌}
 use native.Mathlib.Omega.{arith}
 use borrow.Author.Tests.{eqb-true, ne_eqb, ltb-false}
 use lib.Dec.{eqb, ltb}
-use Rattle.answer.specs.Numbers.{accepts, bad_region}
-use Rattle.answer.specs.Refusable.{given}
+use Rattle.answer.specs.Numbers.{number_of, accepted, bad_region}
+use Rattle.answer.specs.Refusable.{Ok}
+use Rattle.answer.proofs.Laws.{accepts_by_number}
 use Rattle.number.specs.Number.{highest}
 use Rattle.action.specs.Action.{Action, sol_limit, token_limit, sol_recurring_limit, token_recurring_limit}
 use Rattle.action.specs.Fields.{is_token, is_recurring, amounts_of, remaining, limit, spent, window, last_reset}
@@ -56,8 +57,8 @@ left_through fund [] region st a is = (a, is, (let z : remaining (amounts_of a) 
 left_through fund (call ∷ calls) region st a is =
     let (b, is_b, here) = limit_goes limits fund region call st a is sol_is_limit token_is_limit in
     let (c, is_c, rest) = left_through fund calls (region_after region call) (still_stands region call st) b is_b in
-    let head : cond (accepts (judged region call) && true) (taken_by fund call) 0 ≡ takes fund region call =
-    ap (λ (x : Bool). cond x (taken_by fund call) 0) (and-true (accepts (judged region call))) in
+    let head : cond (eqb (number_of (judged region call)) accepted && true) (taken_by fund call) 0 ≡ takes fund region call =
+    ap (λ (x : Bool). cond x (taken_by fund call) 0) (and-true _ ∙ accepts_by_number (judged region call)) in
     (c, is_c, ap (λ (n : ℕ). remaining (amounts_of c) + (n + taken fund ours (region_after region call) calls)) head ∙ (let z : remaining (amounts_of c) + (takes fund region call + taken fund ours (region_after region call) calls) ≡ remaining (amounts_of a) = omega (arith, here, rest) in z))
 
 -- for the SolLimit, and for each mint's TokenLimit: what is left at the end and what accepted calls took are the opening amount
@@ -129,11 +130,12 @@ module _ (slot amount total most : ℕ) (before after : List ℕ) where
 module _ (fund : Fund) (slot : ℕ) where
   -- what a call adds to a slot's total, where the recurring limit is found after it
   added : (region : List ℕ) (call : Call) (b : Action) → first_that (is_recurring_of fund) (region_actions (region_after region call)) ≡ some b
-      → cond (accepts (judged region call) && reset_at slot (recurring_of fund (region_after region call))) (taken_by fund call) 0
+      → cond (eqb (number_of (judged region call)) accepted && reset_at slot (recurring_of fund (region_after region call))) (taken_by fund call) 0
       ≡ cond (eqb (last_reset (amounts_of b)) slot) (takes fund region call) 0
   unfolding recurring_of
   added region call b is =
-      counted (accepts (judged region call)) _ (taken_by fund call)
+      counted (eqb (number_of (judged region call)) accepted) _ (taken_by fund call)
+      ∙ ap (λ (t : Bool). cond (reset_at slot (recurring_of fund (region_after region call))) (cond t (taken_by fund call) 0) 0) (accepts_by_number (judged region call))
       ∙ ap (λ (o : Option Action). cond (reset_at slot (amounts_in o)) (takes fund region call) 0) is
 
   window_through : (calls : List Call) (region : List ℕ) → Stands region → Slotted calls → (a : Action)
@@ -228,7 +230,7 @@ stands_through [] region st = st
 stands_through (call ∷ calls) region st = stands_through calls (region_after region call) (still_stands region call st)
 
 -- the stored form is kept by every run
-pub a_run_keeps_the_stored_form : (region : List ℕ) (calls : List Call) → Created region → (l : List Action) × (stored_actions (after_run ours region calls) ≡ given l)
+pub a_run_keeps_the_stored_form : (region : List ℕ) (calls : List Call) → Created region → (l : List Action) × (stored_actions (after_run ours region calls) ≡ Ok l)
 a_run_keeps_the_stored_form region calls created =
     let st = stands_through calls region (created_stands region created) in
     (st.actions, st.stored)
@@ -237,8 +239,8 @@ never_15 : (calls : List Call) (region : List ℕ) → Stands region → how_oft
 unfolding numbers_of how_often
 never_15 [] region st = refl
 never_15 (call ∷ calls) region st =
-    let most : (judged region call).number ≤ 13 = a_stored_region_is_not_refused_as_such region call st.stored in
-    ap₂ (λ (b : Bool) (n : ℕ). cond b 1 0 + n) (ne_eqb (judged region call).number 15 (λ e. omega arith)) (never_15 calls (region_after region call) (still_stands region call st))
+    let most : number_of (judged region call) ≤ 13 = a_stored_region_is_not_refused_as_such region call st.stored in
+    ap₂ (λ (b : Bool) (n : ℕ). cond b 1 0 + n) (ne_eqb (number_of (judged region call)) 15 (λ e. omega arith)) (never_15 calls (region_after region call) (still_stands region call st))
 
 -- so a run from creation on is never answered with 15
 pub a_run_is_never_answered_with_15 : (region : List ℕ) (calls : List Call) → Created region → how_often bad_region (numbers_of ours region calls) ≡ 0

@@ -2,7 +2,7 @@
 -- Assumes nothing.
 use Rattle.std.specs.Prelude.{ℕ, zero, suc, ◌≡◌, Bool, cond, List, [], ◌∷◌, ◌++◌, map}
 use Rattle.std.proofs.Math.Option.{Option, none, some}
-use Rattle.answer.specs.Numbers.{answer, accepted}
+use Rattle.answer.specs.Numbers.{number_of, accepted}
 use Rattle.action.specs.Action.{Action}
 use Rattle.action.specs.Fields.{is_recurring, amounts_of, remaining, limit, last_reset}
 use Rattle.change.specs.declared.Change.TheVariants.{Nothing, Spent}
@@ -15,15 +15,15 @@ use Rattle.bursar.specs.Limits.{region_actions, limit_of, recurring_of, taken_at
 
 -- refuses everything, with some number
 abbrev pub refusing : ℕ → Judge
-refusing number n region call = record { answer = answer number; region = region }
+refusing number n region call = record { number = number; region = region }
 
 -- accepts everything, and writes what it likes
 abbrev pub accepting : (ℕ → List ℕ → Call → List ℕ) → Judge
-accepting writes n region call = record { answer = answer accepted; region = writes n region call }
+accepting writes n region call = record { number = accepted; region = writes n region call }
 
 -- answers as ours, and never writes
 abbrev pub never_writing : Judge
-never_writing n region call = record { answer = judged region call; region = region }
+never_writing n region call = record { number = number_of (judged region call); region = region }
 
 -- settles the first call, and then only answers
 abbrev pub settling_the_first : Judge

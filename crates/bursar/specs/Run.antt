@@ -1,9 +1,8 @@
 -- A run of calls on one region by any judge, and what its accepted calls take.
 -- Assumes nothing.
-use Rattle.std.specs.Prelude.{ℕ, suc, ◌+◌, ◌≤◌, ◌≡◌, Bool, true, cond, ◌&&◌, List, [], ◌∷◌}
-use Rattle.answer.specs.declared.Answer.{Answer}
+use Rattle.std.specs.Prelude.{ℕ, suc, ◌+◌, ◌≤◌, ◌≡◌, Bool, true, cond, ◌&&◌, List, [], ◌∷◌, eqb}
+use Rattle.answer.specs.Numbers.{number_of, accepted, accepts}
 use Rattle.answer.specs.Each.{Each}
-use Rattle.answer.specs.Numbers.{accepts}
 use Rattle.number.specs.Number.{Bytes, highest}
 use Rattle.creation.specs.Creation.{creation}
 use Rattle.outflow.specs.Outflow.{decrease, decrease_of}
@@ -17,9 +16,9 @@ Created region = Bytes region × (accepts (creation region) ≡ true)
 abbrev pub Slotted : List Call → Type 0
 Slotted calls = Each (λ (call : Call). call.slot ≤ highest) calls
 
--- what a judge says of a call: its answer, and the region afterwards
+-- what a judge says of a call: the number that it answers with, any at all, and the region afterwards
 pub record Judgment : Type 0 where
-  pub answer : Answer
+  pub number : ℕ
   pub region : List ℕ
 
 -- any judge: what it says of a region and a call, after so many calls
@@ -32,7 +31,7 @@ after_one judge n = judge (suc n)
 
 -- ours: the judged call, whatever came before
 abbrev pub ours : Judge
-ours n region call = record { answer = judged region call; region = region_after region call }
+ours n region call = record { number = number_of (judged region call); region = region_after region call }
 
 -- the region after a run: each call is judged on what the one before it left
 unfoldable pub after_run : Judge → List ℕ → List Call → List ℕ
@@ -42,7 +41,7 @@ after_run judge region (call ∷ calls) = after_run (after_one judge) (judge 0 r
 -- the number that each call of a run is answered with
 unfoldable pub numbers_of : Judge → List ℕ → List Call → List ℕ
 numbers_of judge region [] = []
-numbers_of judge region (call ∷ calls) = (judge 0 region call).answer.number ∷ numbers_of (after_one judge) (judge 0 region call).region calls
+numbers_of judge region (call ∷ calls) = (judge 0 region call).number ∷ numbers_of (after_one judge) (judge 0 region call).region calls
 
 -- what limits speak of: SOL, or the tokens of a mint
 pub data Fund : Type 0 where
@@ -59,7 +58,7 @@ unfoldable pub taken_where : (List ℕ → Bool) → Fund → Judge → List ℕ
 taken_where test fund judge region [] = 0
 taken_where test fund judge region (call ∷ calls) =
     let said = judge 0 region call in
-    cond (accepts said.answer && test said.region) (taken_by fund call) 0 + taken_where test fund (after_one judge) said.region calls
+    cond (eqb said.number accepted && test said.region) (taken_by fund call) 0 + taken_where test fund (after_one judge) said.region calls
 
 -- what all accepted calls of a run take from a fund
 abbrev pub taken : Fund → Judge → List ℕ → List Call → ℕ

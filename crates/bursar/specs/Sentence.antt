@@ -1,5 +1,6 @@
 -- The bursar's sentence, of any judge.
 -- Assumes nothing.
+use Rattle.answer.specs.Numbers.{number_of}
 use Rattle.std.specs.Prelude.{ℕ, ◌+◌, ◌<◌, ◌≤◌, ◌≡◌, List}
 use Rattle.std.proofs.Math.Option.{some}
 use Rattle.number.specs.Number.{highest}
@@ -33,4 +34,4 @@ JudgesAsOurs judge = (n : ℕ) (region : List ℕ) (call : Call) → judge n reg
 
 -- a judge answers a call with another number, whenever it comes
 abbrev pub FallsBy : List ℕ → Call → Judge → Type 0
-FallsBy region call judge = (n : ℕ) → (judge n region call).answer.number ≡ (judged region call).number → ⊥
+FallsBy region call judge = (n : ℕ) → (judge n region call).number ≡ number_of (judged region call) → ⊥

@@ -8,12 +8,11 @@ use lib.ListN.{length, length-append}
 use Rattle.action.specs.Action.{Action}
 use Rattle.action.specs.Views.{action_at, written_at}
 use Rattle.change.proofs.Changing.{changed_kind, changed_expires, changed-length}
-use Rattle.row.specs.Views.{action_views}
 use Rattle.region.specs.Region.{glue_one, glue}
 use Rattle.region.specs.Views.{action_view_at, action_views_from}
 use Rattle.region.proofs.Gluing.{glue-append, length-glue_one, glued_action, glued_written}
 use Rattle.limit.specs.Limit.{Charge, change_of, settled}
-use Rattle.charge.specs.Views.{charges, settled_views, settled_at}
+use Rattle.charge.specs.Views.{charges, settled_at}
 
 module _ (slot : ℕ) (c : Charge) where
   pub settled_kind : (settled slot c).kind ≡ c.act.kind
@@ -39,8 +38,8 @@ length_glue_one done a =
 
 -- settling the views of a glued row, from the first on
 settle_from : (slot : ℕ) (l : List Action) (xs : List ℕ) (done : List Action) → length l ≤ length xs
-    → settled_views slot (action_views_from (length (glue done)) l) xs (glue (done ++ l)) ≡ glue (done ++ map (settled slot) (charges l xs))
-unfolding settled_views action_views_from charges
+    → settled_at slot (action_views_from (length (glue done)) l) xs (glue (done ++ l)) ≡ glue (done ++ map (settled slot) (charges l xs))
+unfolding settled_at action_views_from charges
 settle_from slot [] xs done h = refl
 settle_from slot (a ∷ l) [] done h = absurd (let z : ◌≡◌ {A = ℕ} 0 1 = omega arith in omega arith)
 settle_from slot (a ∷ l) (x ∷ xs) done h =
@@ -55,12 +54,12 @@ settle_from slot (a ∷ l) (x ∷ xs) done h =
     ∙ ap glue (sym (append_assoc done (b ∷ []) l)) in
     let next : length (glue done) + 11 + length a.payload ≡ length (glue (done ++ (b ∷ []))) =
     ap (λ (n : ℕ). length (glue done) + 11 + n) (sym (settled-length slot c)) ∙ sym (length_glue_one done b) in
-    ap₂ (λ (place : ℕ) (r : List ℕ). settled_views slot (action_views_from place l) xs r) next wrote
+    ap₂ (λ (place : ℕ) (r : List ℕ). settled_at slot (action_views_from place l) xs r) next wrote
     ∙ settle_from slot l xs (done ++ (b ∷ [])) (omega arith)
     ∙ ap glue (append_assoc done (b ∷ []) (map (settled slot) (charges l xs)))
 
 -- settling a region where its actions lie is gluing the settled actions
-pub settle_glued : (slot : ℕ) (l : List Action) (row amounts : List ℕ) → action_views row ≡ action_views_from 0 l → length l ≤ length amounts
-    → settled_at slot row amounts (glue l) ≡ glue (map (settled slot) (charges l amounts))
-unfolding settled_at glue
-settle_glued slot l row amounts e h = rw e (settle_from slot l amounts [] h)
+pub settle_glued : (slot : ℕ) (l : List Action) (amounts : List ℕ) → length l ≤ length amounts
+    → settled_at slot (action_views_from 0 l) amounts (glue l) ≡ glue (map (settled slot) (charges l amounts))
+unfolding glue
+settle_glued slot l amounts h = settle_from slot l amounts [] h

@@ -1,8 +1,8 @@
 -- The two classes of rules, SOL's and the tokens', and what the rules of one answer.
 -- Assumes nothing.
 use Rattle.std.specs.Prelude.{ℕ, Bool, cond, ◌||◌, List, map, eqb}
-use Rattle.answer.specs.declared.Answer.{Answer}
-use Rattle.answer.specs.Numbers.{answer, accepted, first_refusal}
+use Rattle.answer.specs.Numbers.{Answer, first_refusal}
+use Rattle.answer.specs.Refusable.{Ok}
 use Rattle.action.specs.Action.{sol_limit, sol_recurring_limit, sol_max_per_tx}
 use Rattle.action.specs.Fields.{is_token}
 use Rattle.limit.specs.Limit.{Charge, rule_answer}
@@ -23,4 +23,4 @@ of_class Tokens kind = is_token kind
 unfoldable pub class_answer : Class → ℕ → List Charge → Answer
 unfolding rule_answer of_class
 class_answer class slot charges =
-    first_refusal (map (λ (c : Charge). cond (of_class class c.act.kind) (rule_answer slot c) (answer accepted)) charges)
+    first_refusal (map (λ (c : Charge). cond (of_class class c.act.kind) (rule_answer slot c) (Ok tt)) charges)

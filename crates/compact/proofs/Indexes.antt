@@ -1,66 +1,47 @@
--- Laws of reading only the program indexes: the loop's row is that of the entries so far, and what is counted of it.
+-- The program indexes that a judged call reads are those of the list that decoding gives, and it is refused where decoding gives none.
 -- Assumes nothing.
-use Prim.Native.Nat.{ℕ, zero, suc, ◌+◌, ◌<◌, ◌≤◌}
-use mathlib.Core.Path.{◌≡◌, refl, ap}
+use Prim.Native.Nat.{ℕ, ◌+◌}
+use mathlib.Core.Path.{◌≡◌, refl, sym, ap, ◌∙◌}
 use mathlib.Core.List.{List, [], ◌∷◌, map}
-use lib.ListN.{length, get_or, take, drop, set, replicate}
-use Rattle.answer.specs.Numbers.{answer, accepted}
+use mathlib.Core.Option.{Option, none, some}
+use native.Mathlib.Omega.{arith}
+use lib.ListN.{length}
+use Rattle.arrayvec.specs.ArrayVec.{ArrayVec}
+use Rattle.answer.specs.declared.Refusal.{Refusal}
+use Rattle.answer.specs.declared.Refusal.TheVariants.{InvalidInstructionData}
+use Rattle.answer.specs.Refusable.{Ok, Err}
 use Rattle.compact.specs.declared.Entry.{Entry}
-use Rattle.compact.specs.declared.Entries.{Entries}
-use Rattle.compact.specs.declared.ParsedInstructions.{ParsedInstructions}
-use Rattle.compact.specs.declared.Head.TheVariants.{At}
-use Rattle.compact.specs.Compact.{most_instructions, decode_one}
-use Rattle.compact.specs.Entries.{entries_in}
-use Rattle.compact.specs.Views.{zero_entry, entries_of, reading, parsed_programs, head_of}
-use Rattle.compact.proofs.Reading.{ReadSoFar, read_none, read_all, read_one}
+use Rattle.compact.specs.Compact.{Instruction, Read, encode_one, decode}
+use Rattle.compact.specs.Views.{entry_at, entries_from, reading_refused, reading, parsed_programs}
+use Rattle.compact.proofs.Reading.{outcome, reading_of}
 
-abbrev indexes_of : List Entry → List ℕ
-indexes_of = map (λ (e : Entry). e.program)
+programs_placed : (at : ℕ) (is : List Instruction) → map (λ (e : Entry). e.program) (entries_from at is) ≡ map (λ (i : Instruction). i.program) is
+unfolding entries_from entry_at
+programs_placed at [] = refl
+programs_placed at (i ∷ is) = ap (λ (l : List ℕ). i.program ∷ l) (programs_placed (at + length (encode_one i)) is)
 
-set_indexes : (es : List Entry) (i : ℕ) (e : Entry) → indexes_of (set es i e) ≡ set (indexes_of es) i e.program
-set_indexes [] i e = refl
-set_indexes (x ∷ es) zero e = refl
-set_indexes (x ∷ es) (suc i) e = ap (λ (l : List ℕ). x.program ∷ l) (set_indexes es i e)
+module _ (bytes : List ℕ) where
+  programs_of_none : decode bytes ≡ none → parsed_programs (reading bytes) ≡ Err InvalidInstructionData
+  unfolding parsed_programs outcome reading_refused
+  programs_of_none e = ap parsed_programs (reading_of bytes none e)
 
-take_indexes : (n : ℕ) (es : List Entry) → take n (indexes_of es) ≡ indexes_of (take n es)
-take_indexes zero es = refl
-take_indexes (suc n) [] = refl
-take_indexes (suc n) (e ∷ es) = ap (λ (l : List ℕ). e.program ∷ l) (take_indexes n es)
+  programs_of_some : (d : Read (List Instruction)) → decode bytes ≡ some d
+      → parsed_programs (reading bytes) ≡ Ok (record { items = map (λ (i : Instruction). i.program) d.value })
+  unfolding parsed_programs outcome
+  programs_of_some d e = ap parsed_programs (reading_of bytes (some d) e) ∙ ap (λ (l : List ℕ). Ok (record { items = l })) (programs_placed 1 d.value)
 
--- how far the indexes are read: they are those of the entries that are read so far
-pub record IndexesSoFar (bytes : List ℕ) (count : ℕ) (list : List ℕ) (at i : ℕ) : Type 0 where
-  pub entries : List Entry
-  pub so_far : ReadSoFar bytes count entries at i
-  pub indexes : list ≡ indexes_of entries
+  pub programs_refused : (r : Refusal) → parsed_programs (reading bytes) ≡ Err r → (decode bytes ≡ none) × (r ≡ InvalidInstructionData)
+  programs_refused r h = go (decode bytes) refl
+    where
+      go : (o : Option (Read (List Instruction))) → decode bytes ≡ o → (decode bytes ≡ none) × (r ≡ InvalidInstructionData)
+      go none e = let same = sym (programs_of_none e) ∙ h in (e, cc)
+      go (some d) e = absurd (let no = sym (programs_of_some d e) ∙ h in let z : ◌≡◌ {A = ℕ} 0 1 = cc in omega arith)
 
-pub indexes_none : (bytes : List ℕ) → 0 < length bytes → get_or bytes 0 0 ≤ most_instructions
-    → IndexesSoFar bytes (get_or bytes 0 0) (replicate 16 0) 1 0
-unfolding entries_of zero_entry most_instructions
-indexes_none bytes some_byte few = record { entries = (entries_of []).list; so_far = read_none bytes some_byte few; indexes = refl }
-
-module _ {bytes : List ℕ} {count : ℕ} {list : List ℕ} {at i : ℕ} (far : IndexesSoFar bytes count list at i) where
-  pub indexes_all : count ≤ i → parsed_programs (reading bytes) ≡ record { answer = answer accepted; list = list; count = count }
-  unfolding parsed_programs
-  indexes_all last = rw (read_all far.so_far last, far.indexes)
-
-  pub indexes_one : i < count → (entry : Entry) (next : ℕ) → head_of at (decode_one (drop at bytes)) ≡ At entry next
-      → IndexesSoFar bytes count (set list i entry.program) next (i + 1)
-  indexes_one more entry next h =
-      record {
-        entries = set far.entries i entry;
-        so_far = read_one far.so_far more entry next h;
-        indexes = rw (set_indexes far.entries i entry, far.indexes);
-      }
-
--- the counted indexes are those of the entries that the list holds
--- the program indexes of the entries that a list holds
-unfoldable pub programs_in : Entries → List ℕ
-programs_in entries = indexes_of (entries_in entries)
-
-pub programs_counted : (p : ParsedInstructions) → take (parsed_programs p).count (parsed_programs p).list ≡ programs_in p.entries
-unfolding parsed_programs programs_in entries_in
-programs_counted p = take_indexes p.entries.count p.entries.list
-
-pub programs_answer_lem : (p : ParsedInstructions) → (parsed_programs p).answer ≡ p.answer
-unfolding parsed_programs
-programs_answer_lem p = refl
+  pub programs_given : (programs : ArrayVec ℕ) → parsed_programs (reading bytes) ≡ Ok programs
+      → (d : Read (List Instruction)) × (decode bytes ≡ some d) × (programs.items ≡ map (λ (i : Instruction). i.program) d.value)
+  programs_given programs h = go (decode bytes) refl
+    where
+      go : (o : Option (Read (List Instruction))) → decode bytes ≡ o
+          → (d : Read (List Instruction)) × (decode bytes ≡ some d) × (programs.items ≡ map (λ (i : Instruction). i.program) d.value)
+      go none e = absurd (let no = sym (programs_of_none e) ∙ h in let z : ◌≡◌ {A = ℕ} 0 1 = cc in omega arith)
+      go (some d) e = let same = sym h ∙ programs_of_some d e in (d, e, cc)

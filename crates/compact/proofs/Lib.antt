@@ -1,5 +1,6 @@
 pub mod Format
 pub mod Indexes
+pub mod Keeping
 pub mod Lists
 pub mod NamedValues
 pub mod Parts

@@ -2,7 +2,7 @@
 -- Assumes nothing.
 use Prim.Native.Nat.{ℕ, zero, suc, ◌+◌, ◌-◌, ◌≤◌}
 use mathlib.Core.Path.{◌≡◌, refl, sym, ap, ◌∙◌}
-use mathlib.Core.Bool.{Bool, true, false, false≢true}
+use mathlib.Core.Bool.{Bool, true, false}
 use mathlib.Core.List.{List, [], ◌∷◌, ◌++◌}
 use mathlib.Core.Option.{Option, none, some, none-ne-some}
 use native.Mathlib.Omega.{arith}
@@ -11,9 +11,11 @@ use lib.Dec.{leb}
 use lib.ListN.{length, length-append}
 use Rattle.answer.specs.Each.{Each}
 use Rattle.answer.proofs.Each.{each_so}
-use Rattle.answer.specs.Numbers.{answer, accepts, accepted}
+use Rattle.answer.specs.declared.Refusal.TheVariants.{InvalidInstructionData}
+use Rattle.answer.specs.Refusable.{Ok, Err}
 use Rattle.number.specs.Number.{Bytes, bytes_of}
 use Rattle.number.proofs.Laws.{bytes_append, bytes_of_bytes}
+use Rattle.compact.specs.declared.ParsedInstructions.{ParsedInstructions}
 use Rattle.compact.specs.Compact.{Instruction, WritableOne, Writable, BeginsWithAList, most_instructions, most_accounts, most_payload, Read, encode_one, encode_each, encode, byte, decode_each, decode}
 use Rattle.compact.specs.Views.{entries_from, entries_of, reading_refused, reading}
 use Rattle.compact.proofs.Format.{each_encoded, each_again, each_count, decode_count, decode_too_many}
@@ -70,18 +72,18 @@ each_bytes (i ∷ is) h j = bytes_append (encode_one i) (encode_each is) (one_by
 -- reading gives the entries of the list that was encoded, and consumes exactly its encoding, whatever follows
 pub reading_encoded : (is : List Instruction) (rest : List ℕ) → length is ≤ most_instructions
     → Each (λ (i : Instruction). length i.payload ≤ most_payload) is
-    → reading (encode is ++ rest) ≡ record { answer = answer accepted; entries = entries_of (entries_from 1 is); consumed = length (encode is) }
+    → reading (encode is ++ rest) ≡ Ok (record { entries = entries_of (entries_from 1 is); consumed = length (encode is) })
 unfolding outcome
 reading_encoded is rest few h =
     let all : length (encode is) + length rest - length rest ≡ length (encode is) = omega arith in
     reading_of (encode is ++ rest) (some (record { value = is; rest = rest })) (decode_encoded is rest few h)
     ∙ rw (length-append, all)
 
-pub accepted_begins : (bytes : List ℕ) → Bytes bytes → accepts (reading bytes).answer ≡ true → BeginsWithAList bytes
+pub accepted_begins : (bytes : List ℕ) (p : ParsedInstructions) → Bytes bytes → reading bytes ≡ Ok p → BeginsWithAList bytes
 unfolding outcome reading_refused
-accepted_begins bytes hb h = go (decode bytes) refl
+accepted_begins bytes p hb h = go (decode bytes) refl
   where
     go : (o : Option (Read (List Instruction))) → decode bytes ≡ o → BeginsWithAList bytes
-    go none e = absurd (false≢true (ap (λ p. accepts p.answer) (sym (reading_of bytes none e)) ∙ h))
+    go none e = let no : Err InvalidInstructionData ≡ Ok p = sym (reading_of bytes none e) ∙ h in absurd (let z : ◌≡◌ {A = ℕ} 0 1 = cc in omega arith)
     go (some r) e =
         record { is = r.value; rest = r.rest; split = sym (encoded_again bytes r hb e); writable = decoded_writable bytes r hb e }

@@ -1,23 +1,17 @@
 -- The laws of entries: those of a list whose encoding lies in some bytes mean that list over those bytes.
 -- Assumes nothing.
-use Prim.Native.Nat.{ℕ, ◌+◌, ◌-◌}
+use Prim.Native.Nat.{ℕ, ◌+◌}
 use mathlib.Core.Path.{◌≡◌, refl, sym, ap, ap₂, ◌∙◌}
 use mathlib.Core.List.{List, [], ◌∷◌, ◌++◌, map, append_assoc}
 use native.Mathlib.Omega.{arith}
-use lib.ListN.{length, replicate, length-append}
-use lib.Seq.{take-append_seam}
+use lib.ListN.{length, length-append}
 use Rattle.number.specs.Number.{bytes_of}
 use Rattle.number.proofs.Laws.{length-bytes_of}
 use Rattle.part.specs.Part.{part_at}
 use Rattle.part.proofs.Laws.{part_between}
-use Rattle.compact.specs.declared.Entry.{Entry}
-use Rattle.compact.specs.Compact.{Instruction, most_instructions, encode_one, encode_each, encode}
-use Rattle.compact.specs.Entries.{meant, entries_in, list_of}
-use Rattle.compact.specs.Views.{entry_at, entries_from, zero_entry, entries_of}
-
-pub entries_held : (es : List Entry) → entries_in (entries_of es) ≡ es
-unfolding entries_in entries_of
-entries_held es = take-append_seam es (replicate (most_instructions - length es) zero_entry)
+use Rattle.compact.specs.Compact.{Instruction, encode_one, encode_each, encode}
+use Rattle.compact.specs.Entries.{meant, list_of}
+use Rattle.compact.specs.Views.{entry_at, entries_from}
 
 module _ (before : List ℕ) (i : Instruction) (rest : List ℕ) where
   accounts_lie : part_at (before ++ (encode_one i ++ rest)) (length before + 2) (length i.accounts) ≡ i.accounts
@@ -64,6 +58,6 @@ each_means before (i ∷ is) rest =
 
 -- the entries of a list whose encoding lies at the front of some bytes
 module _ (is : List Instruction) (rest : List ℕ) where
-  pub encoded_means : list_of (encode is ++ rest) (entries_of (entries_from 1 is)) ≡ is
+  pub encoded_means : list_of (encode is ++ rest) (entries_from 1 is) ≡ is
   unfolding list_of encode
-  encoded_means = rw (entries_held (entries_from 1 is)) (each_means (length is ∷ []) is rest)
+  encoded_means = each_means (length is ∷ []) is rest

@@ -2,24 +2,23 @@
 -- Assumes nothing.
 use Prim.Native.Nat.{ℕ, suc, ◌+◌, ◌-◌, ◌<◌, ◌≤◌}
 use mathlib.Core.Path.{◌≡◌, refl, sym, ap, ◌∙◌}
-use mathlib.Core.List.{List, [], ◌∷◌, ◌++◌}
+use mathlib.Core.List.{List, [], ◌∷◌, ◌++◌, append-nil, append_assoc}
 use mathlib.Core.Option.{Option, none, some}
 use native.Mathlib.Nat.{sub-zero}
-use native.Mathlib.Numerals.{add-one}
 use native.Mathlib.Omega.{arith}
-use lib.ListN.{length, get_or, take, drop, set, length-drop, length-set}
-use lib.Seq.{drop-drop, get_or-drop, take_at, drop_at, sets}
-use Rattle.answer.specs.Numbers.{answer, accepted}
+use lib.ListN.{length, get_or, take, drop, length-append, length-drop}
+use lib.Seq.{drop-drop, get_or-drop, take_at, drop_at}
+use Rattle.answer.specs.declared.Refusal.{Refusal}
+use Rattle.answer.specs.declared.Refusal.TheVariants.{InvalidInstructionData}
+use Rattle.answer.specs.Refusable.{Refusable, Ok, Err}
 use Rattle.number.specs.Number.{number, number_at}
 use Rattle.number.proofs.Laws.{number_there}
 use Rattle.compact.specs.declared.Entry.{Entry}
-use Rattle.compact.specs.declared.Entries.{Entries}
 use Rattle.compact.specs.declared.ParsedInstructions.{ParsedInstructions}
-use Rattle.compact.specs.declared.Head.TheVariants.{At, Short}
 use Rattle.compact.specs.Compact.{Instruction, Read, ◌>>=◌, byte, most_instructions, encode_one, decode_one, decode_each, decode}
-use Rattle.compact.specs.Views.{entry_at, entries_from, zero_entry, entries_of, reading_refused, reading, head_of}
-use Rattle.compact.proofs.Parts.{length_part, cut, two_off, filled}
-use Rattle.compact.proofs.Format.{Lies, lies_is_read, read_lies, one_size, one_rest, length-encode_one, each_count, decode_count, decode_too_many}
+use Rattle.compact.specs.Views.{entry_at, entries_from, entries_of, reading_refused, reading, head_of}
+use Rattle.compact.proofs.Parts.{length_part, cut, two_off}
+use Rattle.compact.proofs.Format.{Lies, lies_is_read, read_lies, one_size, one_rest, length-encode_one, decode_count, decode_too_many}
 
 past_head : (p n : ℕ) (accounts after s : List ℕ) → length accounts ≡ n → s ≡ p ∷ n ∷ accounts ++ after → drop (2 + n) s ≡ after
 past_head p n accounts after s many split =
@@ -48,19 +47,19 @@ module _ (bytes : List ℕ) (at : ℕ) where
         long = omega (arith, one_size (drop at bytes) r h, length-encode_one i, length-drop at bytes);
       }
 
-  nothing : ((r : Read Instruction) → decode_one (drop at bytes) ≡ some r → ⊥) → head_of at (decode_one (drop at bytes)) ≡ Short
+  nothing : ((r : Read Instruction) → decode_one (drop at bytes) ≡ some r → ⊥) → head_of at (decode_one (drop at bytes)) ≡ Err InvalidInstructionData
   unfolding head_of
   nothing no_one = go (decode_one (drop at bytes)) refl
     where
-      go : (o : Option (Read Instruction)) → decode_one (drop at bytes) ≡ o → head_of at o ≡ Short
+      go : (o : Option (Read Instruction)) → decode_one (drop at bytes) ≡ o → head_of at o ≡ Err InvalidInstructionData
       go none e = refl
       go (some r) e = absurd (no_one r e)
 
-  pub head_accounts_short : length bytes < at + 4 + get_or bytes (at + 1) 0 → head_of at (decode_one (drop at bytes)) ≡ Short
+  pub head_accounts_short : length bytes < at + 4 + get_or bytes (at + 1) 0 → head_of at (decode_one (drop at bytes)) ≡ Err InvalidInstructionData
   head_accounts_short short = nothing (λ r h. let s = says r h in omega (arith, s.count, s.long))
 
   pub head_payload_short : (size : ℕ) → size ≡ number_at 2 bytes (at + 2 + get_or bytes (at + 1) 0)
-      → length bytes < at + 4 + get_or bytes (at + 1) 0 + size → head_of at (decode_one (drop at bytes)) ≡ Short
+      → length bytes < at + 4 + get_or bytes (at + 1) 0 + size → head_of at (decode_one (drop at bytes)) ≡ Err InvalidInstructionData
   head_payload_short size e short = nothing (λ r h. let s = says r h in
       omega (arith, s.count, s.long, s.size, number_there 2 bytes (at + 2 + get_or bytes (at + 1) 0) (omega (arith, s.count, s.long))))
 
@@ -101,13 +100,14 @@ module _ (bytes : List ℕ) (at : ℕ) where
         }
 
     pub head_there : head_of at (decode_one (drop at bytes))
-        ≡ At
-        (record {
-          program = get_or bytes at 0;
-          accounts = record { start = at + 2; len = get_or bytes (at + 1) 0 };
-          payload = record { start = at + 2 + get_or bytes (at + 1) 0 + 2; len = size };
-        })
-        (at + 2 + get_or bytes (at + 1) 0 + 2 + size)
+        ≡ Ok (
+          record {
+            program = get_or bytes at 0;
+            accounts = record { start = at + 2; len = get_or bytes (at + 1) 0 };
+            payload = record { start = at + 2 + get_or bytes (at + 1) 0 + 2; len = size };
+          },
+          at + 2 + get_or bytes (at + 1) 0 + 2 + size,
+        )
     unfolding head_of entry_at count there
     head_there =
         let accounts = length_part count (at + 2) bytes (omega arith) in
@@ -116,140 +116,126 @@ module _ (bytes : List ℕ) (at : ℕ) where
         rw (lies_is_read (drop at bytes) there there_lies, length-encode_one, accounts, payload, sum)
 
 -- reading by what was decoded, and by which entries that makes
-unfoldable pub outcome : List ℕ → (List Instruction → Entries) → Option (Read (List Instruction)) → ParsedInstructions
+unfoldable pub outcome : List ℕ → (List Instruction → List Entry) → Option (Read (List Instruction)) → Refusable ParsedInstructions
 outcome bytes entries none = reading_refused
-outcome bytes entries (some d) =
-    record { answer = answer accepted; entries = entries d.value; consumed = length bytes - length d.rest }
+outcome bytes entries (some d) = Ok (record { entries = entries_of (entries d.value); consumed = length bytes - length d.rest })
 
-pub reading_of : (bytes : List ℕ) (o : Option (Read (List Instruction))) → decode bytes ≡ o
-    → reading bytes ≡ outcome bytes (λ (is : List Instruction). entries_of (entries_from 1 is)) o
+pub reading_of : (bytes : List ℕ) (o : Option (Read (List Instruction))) → decode bytes ≡ o → reading bytes ≡ outcome bytes (entries_from 1) o
 unfolding reading outcome
 reading_of bytes none e = rw (e, reading)
 reading_of bytes (some d) e = rw (e, reading)
 
-pub reading_empty : (bytes : List ℕ) → length bytes < 1 → reading bytes ≡ reading_refused
-unfolding decode byte outcome
+pub reading_empty : (bytes : List ℕ) → length bytes < 1 → reading bytes ≡ Err InvalidInstructionData
+unfolding decode byte outcome reading_refused
 reading_empty [] h = reading_of [] none refl
 reading_empty (b ∷ bytes) h = absurd (omega arith)
 
-pub reading_too_many : (bytes : List ℕ) → 0 < length bytes → most_instructions < get_or bytes 0 0 → reading bytes ≡ reading_refused
-unfolding outcome
+pub reading_too_many : (bytes : List ℕ) → 0 < length bytes → most_instructions < get_or bytes 0 0 → reading bytes ≡ Err InvalidInstructionData
+unfolding outcome reading_refused
 reading_too_many [] hb h = absurd (omega arith)
 reading_too_many (b ∷ bytes) hb h = reading_of (b ∷ bytes) none (decode_too_many b bytes h)
 
--- the entries where the list so far is `list`, and the instructions from a place on are to come
-abbrev entries_on : ℕ → ℕ → List Entry → ℕ → List Instruction → Entries
-entries_on count at list i is = record { list = sets list i (entries_from at is); count = count }
+-- the entries where some are read, and the instructions from a place on are to come
+abbrev entries_on : List Entry → ℕ → List Instruction → List Entry
+entries_on done at is = done ++ entries_from at is
 
--- reading, where so many instructions are left from a place, and the entries of the others are listed
-unfoldable pub reading_on : ℕ → List ℕ → ℕ → ℕ → List Entry → ℕ → ParsedInstructions
-reading_on left bytes count at list i = outcome bytes (entries_on count at list i) (decode_each left (drop at bytes))
+-- reading, where so many instructions are left from a place, and the entries of the others are read
+unfoldable pub reading_on : ℕ → List ℕ → List Entry → ℕ → Refusable ParsedInstructions
+reading_on left bytes done at = outcome bytes (entries_on done at) (decode_each left (drop at bytes))
 
 pub length_placed : (at : ℕ) (is : List Instruction) → length (entries_from at is) ≡ length is
 unfolding entries_from
 length_placed at [] = refl
 length_placed at (i ∷ is) = ap suc (length_placed (at + length (encode_one i)) is)
 
-reading_starts : (bytes : List ℕ) → 0 < length bytes → get_or bytes 0 0 ≤ most_instructions
-    → reading_on (get_or bytes 0 0) bytes (get_or bytes 0 0) 1 (entries_of []).list 0 ≡ reading bytes
-unfolding reading_on outcome entries_of
+reading_starts : (bytes : List ℕ) → 0 < length bytes → get_or bytes 0 0 ≤ most_instructions → reading_on (get_or bytes 0 0) bytes [] 1 ≡ reading bytes
+unfolding reading_on outcome
 reading_starts [] hb h = absurd (omega arith)
-reading_starts (b ∷ bytes) hb h = go (decode_each b bytes) refl ∙ sym (reading_of (b ∷ bytes) (decode_each b bytes) (decode_count b bytes h))
+reading_starts (b ∷ bytes) hb h = go (decode_each b bytes) ∙ sym (reading_of (b ∷ bytes) (decode_each b bytes) (decode_count b bytes h))
   where
-    go : (o : Option (Read (List Instruction))) → decode_each b bytes ≡ o
-        → outcome (b ∷ bytes) (entries_on b 1 (entries_of []).list 0) o
-        ≡ outcome (b ∷ bytes) (λ (is : List Instruction). entries_of (entries_from 1 is)) o
-    go none e = refl
-    go (some d) e =
-        let many : length (entries_from 1 d.value) ≡ b = length_placed 1 d.value ∙ each_count b bytes d e in
-        let room : length (entries_from 1 d.value) ≤ most_instructions = rw many h in
-        rw (sub-zero most_instructions, filled most_instructions zero_entry (entries_from 1 d.value) room, many)
+    go : (o : Option (Read (List Instruction))) → outcome (b ∷ bytes) (entries_on [] 1) o ≡ outcome (b ∷ bytes) (entries_from 1) o
+    go none = refl
+    go (some d) = refl
 
-module _ (left : ℕ) (bytes : List ℕ) (count at : ℕ) (list : List Entry) (i : ℕ) where
-  reading_stops : head_of at (decode_one (drop at bytes)) ≡ Short → reading_on (suc left) bytes count at list i ≡ reading_refused
-  unfolding reading_on decode_each head_of outcome
-  reading_stops h = go (decode_one (drop at bytes)) refl h
+module _ (left : ℕ) (bytes : List ℕ) (done : List Entry) (at : ℕ) where
+  reading_stops : (r : Refusal) → head_of at (decode_one (drop at bytes)) ≡ Err r → reading_on (suc left) bytes done at ≡ Err r
+  unfolding reading_on decode_each head_of outcome reading_refused
+  reading_stops r h = go (decode_one (drop at bytes)) refl h
     where
-      go : (o : Option (Read Instruction)) → decode_one (drop at bytes) ≡ o → head_of at o ≡ Short
-          → reading_on (suc left) bytes count at list i ≡ reading_refused
-      go none e s = rw (e, reading_on)
+      go : (o : Option (Read Instruction)) → decode_one (drop at bytes) ≡ o → head_of at o ≡ Err r → reading_on (suc left) bytes done at ≡ Err r
+      go none e s = let q : InvalidInstructionData ≡ r = cc in rw (e, reading_on, q)
       go (some d) e s = cc
 
   one_more : (d : Read Instruction) (o : Option (Read (List Instruction)))
-      → outcome bytes (entries_on count at list i)
+      → outcome bytes (entries_on done at)
       (o >>= (λ (more : Read (List Instruction)). some (record { value = d.value ∷ more.value; rest = more.rest })))
-      ≡ outcome bytes (entries_on count (at + length (encode_one d.value)) (set list i (entry_at at d.value)) (suc i)) o
+      ≡ outcome bytes (entries_on (done ++ (entry_at at d.value ∷ [])) (at + length (encode_one d.value))) o
   unfolding outcome entries_from
   one_more d none = refl
-  one_more d (some more) = refl
+  one_more d (some more) = rw append_assoc
 
-  reading_goes_on : (entry : Entry) (next : ℕ) → head_of at (decode_one (drop at bytes)) ≡ At entry next
-      → reading_on (suc left) bytes count at list i ≡ reading_on left bytes count next (set list i entry) (suc i)
+  reading_goes_on : (head : Entry × ℕ) → head_of at (decode_one (drop at bytes)) ≡ Ok head
+      → reading_on (suc left) bytes done at ≡ reading_on left bytes (done ++ (head.0 ∷ [])) head.1
   unfolding reading_on decode_each head_of
-  reading_goes_on entry next h = go (decode_one (drop at bytes)) refl h
+  reading_goes_on head h = go (decode_one (drop at bytes)) refl h
     where
-      go : (o : Option (Read Instruction)) → decode_one (drop at bytes) ≡ o → head_of at o ≡ At entry next
-          → reading_on (suc left) bytes count at list i ≡ reading_on left bytes count next (set list i entry) (suc i)
+      go : (o : Option (Read Instruction)) → decode_one (drop at bytes) ≡ o → head_of at o ≡ Ok head
+          → reading_on (suc left) bytes done at ≡ reading_on left bytes (done ++ (head.0 ∷ [])) head.1
       go none e s = cc
       go (some d) e s =
           let size = length (encode_one d.value) in
           let rest : d.rest ≡ drop (at + size) bytes = one_rest (drop at bytes) d e ∙ drop-drop size at bytes in
-          let here : entry_at at d.value ≡ entry = cc in
-          let there : at + size ≡ next = cc in
-          rw (e, rest, ← here, ← there) (one_more d (decode_each left (drop (at + size) bytes)))
+          let is : (entry_at at d.value, at + size) ≡ head = cc in
+          rw (e, rest, ← is) (one_more d (decode_each left (drop (at + size) bytes)))
 
-reading_inside : (bytes : List ℕ) (at : ℕ) (entry : Entry) (next : ℕ) → at ≤ length bytes → head_of at (decode_one (drop at bytes)) ≡ At entry next
-    → next ≤ length bytes
+reading_inside : (bytes : List ℕ) (at : ℕ) (head : Entry × ℕ) → at ≤ length bytes → head_of at (decode_one (drop at bytes)) ≡ Ok head
+    → head.1 ≤ length bytes
 unfolding head_of
-reading_inside bytes at entry next inside h = go (decode_one (drop at bytes)) refl h
+reading_inside bytes at head inside h = go (decode_one (drop at bytes)) refl h
   where
-    go : (o : Option (Read Instruction)) → decode_one (drop at bytes) ≡ o → head_of at o ≡ At entry next → next ≤ length bytes
+    go : (o : Option (Read Instruction)) → decode_one (drop at bytes) ≡ o → head_of at o ≡ Ok head → head.1 ≤ length bytes
     go none e s = let z : ◌≡◌ {A = ℕ} 0 1 = cc in omega arith
     go (some d) e s =
-        let there : at + length (encode_one d.value) ≡ next = cc in
-        omega (arith, one_size (drop at bytes) d e, length-drop at bytes)
+        let is : (entry_at at d.value, at + length (encode_one d.value)) ≡ head = cc in
+        rw (← is) (omega (arith, one_size (drop at bytes) d e, length-drop at bytes))
 
-reading_ends : (bytes : List ℕ) (count at : ℕ) (list : List Entry) (i : ℕ) → at ≤ length bytes
-    → reading_on 0 bytes count at list i ≡ record { answer = answer accepted; entries = record { list = list; count = count }; consumed = at }
+reading_ends : (bytes : List ℕ) (done : List Entry) (at : ℕ) → at ≤ length bytes
+    → reading_on 0 bytes done at ≡ Ok (record { entries = entries_of done; consumed = at })
 unfolding reading_on decode_each outcome entries_from
-reading_ends bytes count at list i inside =
+reading_ends bytes done at inside =
     let all : length bytes - (length bytes - at) ≡ at = omega arith in
-    rw (length-drop, all)
+    rw (append-nil, length-drop, all)
 
--- how far a list is read: the entries of the first `i` instructions are listed, and reading on from `at` gives what reading gives
-pub record ReadSoFar (bytes : List ℕ) (count : ℕ) (list : List Entry) (at i : ℕ) : Type 0 where
-  pub most : i ≤ count
+-- how far a list is read: some entries are, and reading on from `at` gives what reading gives
+pub record ReadSoFar (bytes : List ℕ) (count : ℕ) (done : List Entry) (at : ℕ) : Type 0 where
+  pub most : length done ≤ count
   pub few : count ≤ most_instructions
   pub inside : at ≤ length bytes
-  pub long : length list ≡ most_instructions
-  pub same : reading_on (count - i) bytes count at list i ≡ reading bytes
+  pub same : reading_on (count - length done) bytes done at ≡ reading bytes
 
-pub read_none : (bytes : List ℕ) → 0 < length bytes → get_or bytes 0 0 ≤ most_instructions
-    → ReadSoFar bytes (get_or bytes 0 0) (entries_of []).list 1 0
-unfolding entries_of most_instructions
+pub read_none : (bytes : List ℕ) → 0 < length bytes → get_or bytes 0 0 ≤ most_instructions → ReadSoFar bytes (get_or bytes 0 0) [] 1
 read_none bytes some_byte few =
-    record { most = omega arith; few = few; inside = some_byte; long = refl; same = rw sub-zero (reading_starts bytes some_byte few) }
+    record { most = omega arith; few = few; inside = some_byte; same = rw sub-zero (reading_starts bytes some_byte few) }
 
-module _ {bytes : List ℕ} {count : ℕ} {list : List Entry} {at i : ℕ} (far : ReadSoFar bytes count list at i) where
-  pub read_all : count ≤ i → reading bytes ≡ record { answer = answer accepted; entries = record { list = list; count = count }; consumed = at }
+module _ {bytes : List ℕ} {count : ℕ} {done : List Entry} {at : ℕ} (far : ReadSoFar bytes count done at) where
+  pub read_all : count ≤ length done → reading bytes ≡ Ok (record { entries = entries_of done; consumed = at })
   read_all last =
-      let none_left : count - i ≡ 0 = omega arith in
-      sym (rw none_left at far.same) ∙ reading_ends bytes count at list i far.inside
+      let none_left : count - length done ≡ 0 = omega (arith, last) in
+      sym (rw none_left at far.same) ∙ reading_ends bytes done at far.inside
 
-  module _ (more : i < count) where
-    one_left : reading_on (suc (count - suc i)) bytes count at list i ≡ reading bytes
-    one_left = let left : count - i ≡ suc (count - suc i) = omega arith in rw left at far.same
+  module _ (more : length done < count) where
+    one_left : reading_on (suc (count - suc (length done))) bytes done at ≡ reading bytes
+    one_left = let left : count - length done ≡ suc (count - suc (length done)) = omega arith in rw left at far.same
 
-    pub read_short : head_of at (decode_one (drop at bytes)) ≡ Short → reading bytes ≡ reading_refused
-    read_short h = sym one_left ∙ reading_stops (count - suc i) bytes count at list i h
+    pub read_short : (r : Refusal) → head_of at (decode_one (drop at bytes)) ≡ Err r → reading bytes ≡ Err r
+    read_short r h = sym one_left ∙ reading_stops (count - suc (length done)) bytes done at r h
 
-    pub read_one : (entry : Entry) (next : ℕ) → head_of at (decode_one (drop at bytes)) ≡ At entry next
-        → ReadSoFar bytes count (set list i entry) next (i + 1)
-    read_one entry next h =
+    pub read_one : (head : Entry × ℕ) → head_of at (decode_one (drop at bytes)) ≡ Ok head → ReadSoFar bytes count (done ++ (head.0 ∷ [])) head.1
+    read_one head h =
+        let longer : length (done ++ (head.0 ∷ [])) ≡ suc (length done) = simp length-append (omega arith) in
         record {
-          most = omega arith;
+          most = omega (arith, longer);
           few = far.few;
-          inside = reading_inside bytes at entry next far.inside h;
-          long = length-set list i entry ∙ far.long;
-          same = rw add-one (sym (reading_goes_on (count - suc i) bytes count at list i entry next h) ∙ one_left);
+          inside = reading_inside bytes at head far.inside h;
+          same = rw longer (sym (reading_goes_on (count - suc (length done)) bytes done at head h) ∙ one_left);
         }

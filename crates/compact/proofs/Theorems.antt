@@ -2,17 +2,16 @@
 -- Assumes nothing.
 use Prim.Native.Nat.{ℕ, zero, suc, ◌+◌, ◌<◌}
 use mathlib.Core.Path.{◌≡◌, sym, ap, ◌∙◌}
-use mathlib.Core.Bool.{true}
 use mathlib.Core.List.{List, ◌++◌}
 use mathlib.Core.Option.{none, some, some-injective}
 use native.Mathlib.Omega.{arith}
 use lib.ListN.{length, take, length-append}
-use Rattle.answer.specs.Numbers.{answer, accepts, accepted}
+use Rattle.answer.specs.Refusable.{Refusable, Ok, change}
 use Rattle.answer.specs.Outcome.{one-outcome}
 use Rattle.number.specs.Number.{Bytes}
 use Rattle.compact.specs.declared.ParsedInstructions.{ParsedInstructions}
 use Rattle.compact.specs.Compact.{Instruction, Writable, BeginsWithAList, most_instructions, Read, encode, decode_one, decode}
-use Rattle.compact.specs.Entries.{list_of}
+use Rattle.compact.specs.Entries.{entries_in, list_of}
 use Rattle.compact.specs.Views.{entries_from, entries_of, reading}
 use Rattle.compact.proofs.Format.{one_extends, each_extends, needs_all, decode_count}
 use Rattle.compact.proofs.Places.{encoded_means}
@@ -40,25 +39,27 @@ bytes_begin_with_one_list_alone is js xs ys hi hj e =
     (ap (λ (r : Read (List Instruction)). r.value) same, ap (λ (r : Read (List Instruction)). r.rest) same)
 
 pub reading_what_was_encoded : (is : List Instruction) (rest : List ℕ) → Writable is
-    → reading (encode is ++ rest) ≡ record { answer = answer accepted; entries = entries_of (entries_from 1 is); consumed = length (encode is) }
+    → reading (encode is ++ rest) ≡ Ok (record { entries = entries_of (entries_from 1 is); consumed = length (encode is) })
 reading_what_was_encoded is rest h = reading_encoded is rest h.few (short is h.each)
 
-pub what_reading_accepts_begins_with_a_list : (bytes : List ℕ) → Bytes bytes → accepts (reading bytes).answer ≡ true → BeginsWithAList bytes
+pub what_reading_accepts_begins_with_a_list : (bytes : List ℕ) (p : ParsedInstructions) → Bytes bytes → reading bytes ≡ Ok p → BeginsWithAList bytes
 what_reading_accepts_begins_with_a_list = accepted_begins
 
 -- the ranges that reading answers with name the bytes of the list that they stand for, and all but the rest is consumed
 pub what_reading_answers_with_means_the_decoded_list : (bytes : List ℕ) (r : Read (List Instruction)) → Bytes bytes → decode bytes ≡ some r
-    → (list_of bytes (reading bytes).entries ≡ r.value) × ((reading bytes).consumed + length r.rest ≡ length bytes)
+    → (p : ParsedInstructions) × (reading bytes ≡ Ok p) × (list_of bytes (entries_in p.entries) ≡ r.value) × (p.consumed + length r.rest ≡ length bytes)
 what_reading_answers_with_means_the_decoded_list bytes r hb h =
-    rw (← (encode-decode bytes r hb h), reading_what_was_encoded r.value r.rest (what_was_decoded_is_writable bytes r hb h))
-    (encoded_means r.value r.rest, sym (length-append (encode r.value) r.rest))
+    let p : ParsedInstructions = record { entries = entries_of (entries_from 1 r.value); consumed = length (encode r.value) } in
+    rw (← (encode-decode bytes r hb h))
+    (p, reading_what_was_encoded r.value r.rest (what_was_decoded_is_writable bytes r hb h), encoded_means r.value r.rest, sym (length-append (encode r.value) r.rest))
 
--- whatever meets the contract of reading gives one list and one count of bytes consumed
-pub reading_determines_the_list_and_the_count : (bytes : List ℕ) (p q : ParsedInstructions) → p ≡ reading bytes → q ≡ reading bytes
-    → (list_of bytes p.entries ≡ list_of bytes q.entries) × (p.consumed ≡ q.consumed)
-reading_determines_the_list_and_the_count bytes p q hp hq =
-    let same = one-outcome hp hq in
-    (ap (λ (r : ParsedInstructions). list_of bytes r.entries) same, ap (λ (r : ParsedInstructions). r.consumed) same)
+-- whatever meets the contract of reading gives one list and one count of bytes consumed, or refuses alike
+pub reading_determines_the_list_and_the_count : (bytes : List ℕ) (x y : Refusable ParsedInstructions) → x ≡ reading bytes → y ≡ reading bytes
+    → (change (λ (p : ParsedInstructions). list_of bytes (entries_in p.entries)) x ≡ change (λ (p : ParsedInstructions). list_of bytes (entries_in p.entries)) y)
+    × (change (λ (p : ParsedInstructions). p.consumed) x ≡ change (λ (p : ParsedInstructions). p.consumed) y)
+reading_determines_the_list_and_the_count bytes x y hx hy =
+    let same = one-outcome hx hy in
+    (ap (change (λ (p : ParsedInstructions). list_of bytes (entries_in p.entries))) same, ap (change (λ (p : ParsedInstructions). p.consumed)) same)
 
 -- for a reader that takes the bytes in pieces: one instruction, and the list
 pub more_bytes_do_not_change_the_first_instruction : (bytes more : List ℕ) (r : Read Instruction) → decode_one bytes ≡ some r

@@ -1,10 +1,10 @@
 -- Entries over a source: the ranges that name an instruction's accounts and data, and the list that entries mean.
 -- Assumes nothing.
-use Rattle.std.specs.Prelude.{ℕ, ◌+◌, Bool, List, map, leb, length, take}
+use Rattle.std.specs.Prelude.{ℕ, ◌+◌, Bool, List, map, leb, length}
+use Rattle.arrayvec.specs.ArrayVec.{ArrayVec}
 use Rattle.part.specs.Part.{part_at}
 use Rattle.compact.specs.declared.Range.{Range}
 use Rattle.compact.specs.declared.Entry.{Entry}
-use Rattle.compact.specs.declared.Entries.{Entries}
 use Rattle.compact.specs.Compact.{Instruction}
 
 -- the bytes of a source that a range names, nothing where they are not all there
@@ -20,9 +20,9 @@ unfoldable pub meant : List ℕ → Entry → Instruction
 meant source e = record { program = e.program; accounts = range_bytes source e.accounts; payload = range_bytes source e.payload }
 
 -- the entries that a list holds
-unfoldable pub entries_in : Entries → List Entry
-entries_in l = take l.count l.list
+abbrev pub entries_in : ArrayVec Entry → List Entry
+entries_in l = l.items
 
--- the instructions that they mean over a source
-unfoldable pub list_of : List ℕ → Entries → List Instruction
-list_of source l = map (meant source) (entries_in l)
+-- the instructions that some entries mean over a source
+unfoldable pub list_of : List ℕ → List Entry → List Instruction
+list_of source es = map (meant source) es

@@ -3,15 +3,16 @@
 use mathlib.Core.Path.{◌≡◌, refl, sym, ap, ap₂, subst, ◌∙◌}
 use mathlib.Core.Bool.{Bool, true, false, not, ◌&&◌, ◌||◌, and-eq-true_iff}
 use mathlib.Core.List.{List, [], ◌∷◌, map}
-use Prim.Native.Nat.{ℕ, ◌<◌, ◌≤◌}
+use Prim.Native.Nat.{ℕ, ◌≤◌}
 use native.Mathlib.Omega.{arith}
-use borrow.Author.Tests.{ne_eqb, eqb-true}
-use lib.Dec.{eqb, ltb, lit<}
+use borrow.Author.Tests.{eqb-true}
+use lib.Dec.{eqb, ltb}
 use lib.ListN.{length}
 use Rattle.answer.specs.Each.{Each}
-use Rattle.answer.specs.declared.Answer.{Answer}
-use Rattle.answer.specs.Numbers.{answer, accepted, accepts, bad_region, action_buffer_invalid, action_whitelist_blacklist_conflict}
-use Rattle.answer.specs.Refusable.{Refusable, given, refused}
+use Rattle.answer.specs.declared.Refusal.{Refusal}
+use Rattle.answer.specs.declared.Refusal.TheVariants.{ActionBufferInvalid, ActionWhitelistBlacklistConflict, BadRegion}
+use Rattle.answer.specs.Numbers.{accepts}
+use Rattle.answer.specs.Refusable.{Refusable, Ok, Err}
 use Rattle.number.specs.Number.{Bytes}
 use Rattle.key.specs.Key.{same_key}
 use Rattle.action.specs.Action.{Action}
@@ -45,28 +46,28 @@ must_fail : (t : Bool) → (t ≡ true → ⊥) → t ≡ false
 must_fail true h = absurd (h refl)
 must_fail false h = refl
 
-module _ (breach conflict : ℕ) (ending : Rule) (l : List Action) (some : 0 < breach) (other : 0 < conflict) where
+module _ (breach conflict : Refusal) (ending : Rule) (l : List Action) where
   module _ (h : accepts (form_of breach conflict ending l) ≡ true) where
-    refutes : {n : ℕ} → 0 < n → form_of breach conflict ending l ≡ answer n → ⊥
-    refutes {n} pos e =
-        let z : ◌≡◌ {A = Bool} true false = sym h ∙ ap accepts e ∙ ne_eqb n 0 (λ q. omega arith) in
+    refutes : {r : Refusal} → form_of breach conflict ending l ≡ Err r → ⊥
+    refutes e =
+        let z : ◌≡◌ {A = Bool} true false = sym h ∙ ap accepts e in
         let q : ◌≡◌ {A = ℕ} 0 1 = cc in
         omega arith
 
     lengths_are : all_keep Length l ≡ true
-    lengths_are = must_hold (all_keep Length l) (λ e. refutes some (form_length breach conflict ending l some other e))
+    lengths_are = must_hold (all_keep Length l) (λ e. refutes (form_length breach conflict ending l e))
 
     lists_are : both_lists (kinds_of l) ≡ false
-    lists_are = must_fail (both_lists (kinds_of l)) (λ e. refutes other (form_conflict breach conflict ending l some other lengths_are e))
+    lists_are = must_fail (both_lists (kinds_of l)) (λ e. refutes (form_conflict breach conflict ending l lengths_are e))
 
     sol_is : sol_repeats (kinds_of l) ≡ false
-    sol_is = must_fail (sol_repeats (kinds_of l)) (λ e. refutes some (form_sol breach conflict ending l some other lengths_are lists_are e))
+    sol_is = must_fail (sol_repeats (kinds_of l)) (λ e. refutes (form_sol breach conflict ending l lengths_are lists_are e))
 
     mints_are : mint_repeats l ≡ false
-    mints_are = must_fail (mint_repeats l) (λ e. refutes some (form_mint breach conflict ending l some other lengths_are lists_are sol_is e))
+    mints_are = must_fail (mint_repeats l) (λ e. refutes (form_mint breach conflict ending l lengths_are lists_are sol_is e))
 
     ended_is : all_keep ending l ≡ true
-    ended_is = must_hold (all_keep ending l) (λ e. refutes some (form_ending breach conflict ending l some other lengths_are lists_are sol_is mints_are e))
+    ended_is = must_hold (all_keep ending l) (λ e. refutes (form_ending breach conflict ending l lengths_are lists_are sol_is mints_are e))
 
     -- what an accepted form says
     pub formed : Formed ending l
@@ -78,10 +79,10 @@ module _ (breach conflict : ℕ) (ending : Rule) (l : List Action) (some : 0 < b
       ended = ended_is;
     }
 
-pub in_form : (breach conflict : ℕ) (ending : Rule) (l : List Action) → 0 < breach → 0 < conflict → Formed ending l
-    → form_of breach conflict ending l ≡ answer accepted
-in_form breach conflict ending l some other f =
-    form_kept breach conflict ending l some other f.lengths f.one_kind_of_list f.one_of_each_sol_type f.one_of_each_token_type_for_a_mint f.ended
+pub in_form : (breach conflict : Refusal) (ending : Rule) (l : List Action) → Formed ending l
+    → form_of breach conflict ending l ≡ Ok tt
+in_form breach conflict ending l f =
+    form_kept breach conflict ending l f.lengths f.one_kind_of_list f.one_of_each_sol_type f.one_of_each_token_type_for_a_mint f.ended
 
 -- ---- creation and the stored form
 
@@ -103,58 +104,58 @@ all_fresh_are_windowed (a ∷ l) e =
     (and-eq-true_iff (keeps Windowed a) _).1 (fresh_is_windowed a here, all_fresh_are_windowed l after)
 
 module _ (s : List ℕ) where
-  module _ {k : List Action} (is : cut most_actions s ≡ given k) where
-    stored_given : in_stored_form k ≡ true → stored_actions s ≡ given k
+  module _ {k : List Action} (is : cut most_actions s ≡ Ok k) where
+    stored_given : in_stored_form k ≡ true → stored_actions s ≡ Ok k
     unfolding stored_actions
     stored_given h = rw (is, stored_actions) (rw h)
 
-    stored_not : in_stored_form k ≡ false → stored_actions s ≡ refused (answer bad_region)
+    stored_not : in_stored_form k ≡ false → stored_actions s ≡ Err BadRegion
     unfolding stored_actions
     stored_not h = rw (is, stored_actions) (rw h)
 
-    creation_given : creation s ≡ form_of action_buffer_invalid action_whitelist_blacklist_conflict Fresh k
+    creation_given : creation s ≡ form_of ActionBufferInvalid ActionWhitelistBlacklistConflict Fresh k
     unfolding creation
     creation_given = rw (is, creation)
 
-  module _ {r : Answer} (not-cut : cut most_actions s ≡ refused r) where
-    stored_not_cut : stored_actions s ≡ refused (answer bad_region)
+  module _ {r : Refusal} (not-cut : cut most_actions s ≡ Err r) where
+    stored_not_cut : stored_actions s ≡ Err BadRegion
     unfolding stored_actions
     stored_not_cut = rw (not-cut, stored_actions)
 
-    creation_not_cut : creation s ≡ answer action_buffer_invalid
+    creation_not_cut : creation s ≡ Err ActionBufferInvalid
     unfolding creation
-    creation_not_cut = rw (not-cut, creation) (cut_refuses most_actions s r not-cut)
+    creation_not_cut = rw (not-cut, creation) (ap Err (cut_refuses most_actions s r not-cut))
 
-apart : {l : List Action} {r : Answer} {x : Refusable (List Action)} → x ≡ given l → x ≡ refused r → ⊥
+apart : {l : List Action} {r : Refusal} {x : Refusable (List Action)} → x ≡ Ok l → x ≡ Err r → ⊥
 apart p q = let z = sym p ∙ q in let n : ◌≡◌ {A = ℕ} 0 1 = cc in omega arith
 
 stored_formed : (k : List Action) → in_stored_form k ≡ true → Formed Windowed k
 unfolding in_stored_form
-stored_formed k kept = formed bad_region bad_region Windowed k (lit< tt) (lit< tt) kept
+stored_formed k kept = formed BadRegion BadRegion Windowed k kept
 
 pub formed_stored : (k : List Action) → Formed Windowed k → in_stored_form k ≡ true
 unfolding in_stored_form
-formed_stored k form = ap accepts (in_form bad_region bad_region Windowed k (lit< tt) (lit< tt) form)
+formed_stored k form = ap accepts (in_form BadRegion BadRegion Windowed k form)
 
 -- the actions of a region in stored form are what it cuts into, in form
-pub stored_is_formed : (s : List ℕ) (l : List Action) → stored_actions s ≡ given l → (cut most_actions s ≡ given l) × Formed Windowed l
+pub stored_is_formed : (s : List ℕ) (l : List Action) → stored_actions s ≡ Ok l → (cut most_actions s ≡ Ok l) × Formed Windowed l
 stored_is_formed s l e = go (cut most_actions s) refl
   where
-    go : (x : Refusable (List Action)) → cut most_actions s ≡ x → (cut most_actions s ≡ given l) × Formed Windowed l
-    go (refused r) q = absurd (apart e (stored_not_cut s q))
-    go (given k) q =
+    go : (x : Refusable (List Action)) → cut most_actions s ≡ x → (cut most_actions s ≡ Ok l) × Formed Windowed l
+    go (Err r) q = absurd (apart e (stored_not_cut s q))
+    go (Ok k) q =
         let kept : in_stored_form k ≡ true = must_hold (in_stored_form k) (λ h. apart e (stored_not s q h)) in
         let eq : k ≡ l = let same = stored_given s q kept in cc in
-        subst (λ (m : List Action). (cut most_actions s ≡ given m) × Formed Windowed m) eq (q, stored_formed k kept)
+        subst (λ (m : List Action). (cut most_actions s ≡ Ok m) × Formed Windowed m) eq (q, stored_formed k kept)
 
 -- a region that creation accepted is in stored form
-pub creation_accepted_is_stored : (s : List ℕ) → accepts (creation s) ≡ true → (l : List Action) × (stored_actions s ≡ given l) × Formed Fresh l
+pub creation_accepted_is_stored : (s : List ℕ) → accepts (creation s) ≡ true → (l : List Action) × (stored_actions s ≡ Ok l) × Formed Fresh l
 creation_accepted_is_stored s e = go (cut most_actions s) refl
   where
-    go : (x : Refusable (List Action)) → cut most_actions s ≡ x → (l : List Action) × (stored_actions s ≡ given l) × Formed Fresh l
-    go (refused r) q = absurd (let z : ◌≡◌ {A = Bool} true false = sym e ∙ ap accepts (creation_not_cut s q) in let n : ◌≡◌ {A = ℕ} 0 1 = cc in omega arith)
-    go (given k) q =
-        let fresh = formed action_buffer_invalid action_whitelist_blacklist_conflict Fresh k (lit< tt) (lit< tt) (sym (ap accepts (creation_given s q)) ∙ e) in
+    go : (x : Refusable (List Action)) → cut most_actions s ≡ x → (l : List Action) × (stored_actions s ≡ Ok l) × Formed Fresh l
+    go (Err r) q = absurd (let z : ◌≡◌ {A = Bool} true false = sym e ∙ ap accepts (creation_not_cut s q) in let n : ◌≡◌ {A = ℕ} 0 1 = cc in omega arith)
+    go (Ok k) q =
+        let fresh = formed ActionBufferInvalid ActionWhitelistBlacklistConflict Fresh k (sym (ap accepts (creation_given s q)) ∙ e) in
         let kept : Formed Windowed k = record {
           lengths = fresh.lengths;
           one_kind_of_list = fresh.one_kind_of_list;
@@ -165,11 +166,11 @@ creation_accepted_is_stored s e = go (cut most_actions s) refl
         (k, stored_given s q (formed_stored k kept), fresh)
 
 -- a region in stored form is at most 1,200 bytes
-pub stored_at_most_1200 : (s : List ℕ) (l : List Action) → stored_actions s ≡ given l → length s ≤ 1200
+pub stored_at_most_1200 : (s : List ℕ) (l : List Action) → stored_actions s ≡ Ok l → length s ≤ 1200
 stored_at_most_1200 s l e = let (is, form) = stored_is_formed s l e in region_at_most (cut_cuts most_actions s l is) form.lengths
 
 -- a region in stored form is its actions, glued
-pub stored_is_glued : (s : List ℕ) (l : List Action) → Bytes s → stored_actions s ≡ given l → glue l ≡ s
+pub stored_is_glued : (s : List ℕ) (l : List Action) → Bytes s → stored_actions s ≡ Ok l → glue l ≡ s
 stored_is_glued s l bytes e = let (is, form) = stored_is_formed s l e in glue-cut (cut_cuts most_actions s l is) bytes
 
 -- ---- changing the amounts of actions keeps them in form
@@ -246,11 +247,11 @@ module _ (f : Action → Change) where
   regular_changed (a ∷ l) rs = (changed_regular rs.0 (f a), regular_changed l rs.1)
 
 -- regular actions in form, at most 16, are those of the region that they glue to
-pub glued_is_stored : (l : List Action) → Each Regular l → Formed Windowed l → length l ≤ 16 → stored_actions (glue l) ≡ given l
+pub glued_is_stored : (l : List Action) → Each Regular l → Formed Windowed l → length l ≤ 16 → stored_actions (glue l) ≡ Ok l
 glued_is_stored l rs form few = stored_given (glue l) (cut-glue most_actions l (regular_fit l rs) few) (formed_stored l form)
 
 -- the actions of a region of bytes in stored form are regular, and at most 16
-pub stored_is_regular : (s : List ℕ) (l : List Action) → Bytes s → stored_actions s ≡ given l → Each Regular l × (length l ≤ 16)
+pub stored_is_regular : (s : List ℕ) (l : List Action) → Bytes s → stored_actions s ≡ Ok l → Each Regular l × (length l ≤ 16)
 stored_is_regular s l bytes e =
     let (is, form) = stored_is_formed s l e in
     let cuts = cut_cuts most_actions s l is in

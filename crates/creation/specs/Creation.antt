@@ -1,9 +1,10 @@
 -- What creation asks of a region's actions, and the stored form: rules (a) to (f), the first breach deciding.
 -- Assumes nothing.
 use Rattle.std.specs.Prelude.{ℕ, ◌+◌, Bool, true, false, not, cond, ◌&&◌, ◌||◌, List, [], ◌∷◌, map, eqb, ltb, length}
-use Rattle.answer.specs.declared.Answer.{Answer}
-use Rattle.answer.specs.Numbers.{answer, accepts, first_refusal, refuse_if, action_buffer_invalid, action_whitelist_blacklist_conflict, bad_region}
-use Rattle.answer.specs.Refusable.{Refusable, given, refused}
+use Rattle.answer.specs.declared.Refusal.{Refusal}
+use Rattle.answer.specs.declared.Refusal.TheVariants.{ActionBufferInvalid, ActionWhitelistBlacklistConflict, BadRegion}
+use Rattle.answer.specs.Numbers.{Answer, accepts, first_refusal, refuse_if}
+use Rattle.answer.specs.Refusable.{Refusable, Ok, Err}
 use Rattle.key.specs.Key.{same_key}
 use Rattle.action.specs.Action.{Action, data_length, sol_limit, sol_recurring_limit, sol_max_per_tx, program_whitelist, program_blacklist}
 use Rattle.action.specs.Fields.{is_token, is_recurring, key_of, amounts_of, spent, window, last_reset}
@@ -55,7 +56,7 @@ mint_repeats [] = false
 mint_repeats (a ∷ l) = is_token a.kind && mint_again a l || mint_repeats l
 
 -- the first breach of (b) to (e) and of the rule that ends the list, each with its number
-unfoldable pub form_of : ℕ → ℕ → Rule → List Action → Answer
+unfoldable pub form_of : Refusal → Refusal → Rule → List Action → Answer
 unfolding all_keep both_lists sol_repeats mint_repeats
 form_of breach conflict ending l =
     first_refusal
@@ -71,20 +72,20 @@ unfoldable pub creation : List ℕ → Answer
 unfolding cut form_of
 creation s =
     elim (cut most_actions s) [
-      | given l ↦ form_of action_buffer_invalid action_whitelist_blacklist_conflict Fresh l
-      | refused r ↦ r
+      | Ok l ↦ form_of ActionBufferInvalid ActionWhitelistBlacklistConflict Fresh l
+      | Err r ↦ Err r
     ]
 
 -- whether actions are in stored form
 unfoldable pub in_stored_form : List Action → Bool
 unfolding form_of
-in_stored_form l = accepts (form_of bad_region bad_region Windowed l)
+in_stored_form l = accepts (form_of BadRegion BadRegion Windowed l)
 
 -- the actions of a region in stored form; any breach is one refusal
 unfoldable pub stored_actions : List ℕ → Refusable (List Action)
 unfolding cut in_stored_form
 stored_actions s =
     elim (cut most_actions s) [
-      | given l ↦ elim (in_stored_form l) [ true ↦ given l | false ↦ refused (answer bad_region) ]
-      | refused r ↦ refused (answer bad_region)
+      | Ok l ↦ elim (in_stored_form l) [ true ↦ Ok l | false ↦ Err BadRegion ]
+      | Err r ↦ Err BadRegion
     ]

@@ -2,7 +2,7 @@
 -- Assumes nothing.
 use Rattle.std.specs.Prelude.{ℕ, zero, suc, List, [], ◌∷◌, ◌++◌, length, take, replicate}
 use Rattle.answer.specs.NamedValue.{NamedValue}
-use Rattle.answer.specs.Numbers.{accepted, action_buffer_invalid, action_whitelist_blacklist_conflict}
+use Rattle.answer.specs.Numbers.{number_of, accepted, action_buffer_invalid, action_whitelist_blacklist_conflict}
 use Rattle.number.specs.Number.{bytes_of}
 use Rattle.action.specs.Action.{Action, sol_limit, program_whitelist, program_blacklist}
 use Rattle.region.specs.Region.{glue}
@@ -52,7 +52,7 @@ times (suc n) bytes = bytes ++ times n bytes
 
 -- what creation answers, and the region's length
 unfoldable pub created : List ℕ → List ℕ
-created s = (creation s).number ∷ length s ∷ []
+created s = number_of (creation s) ∷ length s ∷ []
 
 unfoldable pub named_values : List NamedValue
 unfolding sol_limit100 sol_limit100_bytes entry entry_bytes times created

@@ -7,19 +7,19 @@ use mathlib.Core.List.{List, [], ◌∷◌, ◌++◌, map}
 use native.Mathlib.Omega.{arith}
 use borrow.Author.Tests.{le-leb, leb-true}
 use lib.Dec.{leb}
-use lib.ListN.{length, length-append, length-take, length-map}
+use lib.ListN.{length, length-append, length-map}
+use Rattle.std.proofs.lemmas.Bool.{and_parts}
 use Rattle.answer.specs.Each.{Each}
 use Rattle.part.proofs.Laws.{length_part_there}
 use Rattle.compact.specs.declared.Entry.{Entry}
-use Rattle.compact.specs.declared.Entries.{Entries}
 use Rattle.compact.specs.Compact.{Instruction, WritableOne, most_instructions, most_accounts, most_payload, encode_one, encode_each, encode}
-use Rattle.compact.specs.Entries.{meant, entries_in, list_of, within}
-use Rattle.compact.specs.Views.{entry_at, entries_from, entries_of}
+use Rattle.compact.specs.Entries.{meant, list_of, within}
+use Rattle.compact.specs.Views.{entry_at, entries_from}
 use Rattle.compact.proofs.Format.{length-encode_one}
 use Rattle.compact.proofs.Reading.{length_placed}
-use Rattle.compact.proofs.Places.{entries_held, here, after}
+use Rattle.compact.proofs.Places.{here, after}
 use Rattle.encoding.specs.Encoding.{encodable_one, encodable_each, encodable}
-use Rattle.encoding.proofs.Writing.{and_left, and_right, keeps, writing-keeps}
+use Rattle.encoding.proofs.Writing.{keeps, writing-keeps}
 
 module _ (before : List ℕ) (i : Instruction) (rest : List ℕ) where
   one-keeps : WritableOne i → encodable_one (before ++ (encode_one i ++ rest)) (entry_at (length before) i) ≡ true
@@ -49,16 +49,10 @@ each_keeps before (i ∷ is) rest h =
     let those : encodable_each bytes (entries_from next is) ≡ true = rw (after before i is rest, ← (length-append before (encode_one i))) then in
     rw (this, those)
 
-placed_count : (is : List Instruction) → (entries_of (entries_from 1 is)).count ≡ length is
-unfolding entries_of
-placed_count is = length_placed 1 is
-
 -- the entries of a list whose encoding lies at the front of some bytes
-pub encoded_keeps : (is : List Instruction) (rest : List ℕ) → length is ≤ most_instructions → Each WritableOne is → encodable (encode is ++ rest) (entries_of (entries_from 1 is)) ≡ true
+pub encoded_keeps : (is : List Instruction) (rest : List ℕ) → length is ≤ most_instructions → Each WritableOne is → encodable (encode is ++ rest) (entries_from 1 is) ≡ true
 unfolding encode
-encoded_keeps is rest few h =
-    writing-keeps (entries_of (entries_from 1 is)) (encode is ++ rest) (rw (placed_count is) few)
-    (rw (entries_held (entries_from 1 is)) (each_keeps (length is ∷ []) is rest h))
+encoded_keeps is rest few h = writing-keeps (entries_from 1 is) (encode is ++ rest) (rw (length_placed 1 is) few) (each_keeps (length is ∷ []) is rest h)
 
 -- an entry that keeps the limits means an instruction whose data is no longer than they say
 meant_short : (source : List ℕ) (es : List Entry) → encodable_each source es ≡ true
@@ -68,15 +62,15 @@ meant_short source [] h = tt
 meant_short source (e ∷ es) h =
     let this = encodable_one source e in
     let those = encodable_each source es in
-    let k = keeps source e (and_left this those h) in
-    (rw (length_part_there source e.payload.start e.payload.len k.payload) k.short, meant_short source es (and_right this those h))
+    let both = and_parts this those h in
+    let k = keeps source e both.0 in
+    (rw (length_part_there source e.payload.start e.payload.len k.payload) k.short, meant_short source es both.1)
 
-pub encodable_means : (source : List ℕ) (l : Entries) → encodable source l ≡ true
-    → (length (list_of source l) ≤ most_instructions) × Each (λ (i : Instruction). length i.payload ≤ most_payload) (list_of source l)
-unfolding encodable list_of entries_in
-encodable_means source l h =
-    let few = leb l.count most_instructions in
-    let each = encodable_each source (entries_in l) in (
-      rw (length-map, length-take) (omega (arith, leb-true l.count most_instructions (and_left few each h))),
-      meant_short source (entries_in l) (and_right few each h),
-    )
+pub encodable_means : (source : List ℕ) (es : List Entry) → encodable source es ≡ true
+    → (length (list_of source es) ≤ most_instructions) × Each (λ (i : Instruction). length i.payload ≤ most_payload) (list_of source es)
+unfolding encodable list_of
+encodable_means source es h =
+    let few = leb (length es) most_instructions in
+    let each = encodable_each source es in
+    let both = and_parts few each h in
+    (rw length-map (leb-true (length es) most_instructions both.0), meant_short source es both.1)

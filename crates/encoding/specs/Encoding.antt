@@ -1,13 +1,12 @@
 -- Writing compact instructions: the limits, the answer, and the output afterwards.
 -- Assumes nothing.
 use Rattle.std.specs.Prelude.{ℕ, Bool, true, not, cond, ◌&&◌, List, [], ◌∷◌, ◌++◌, leb, ltb, length, drop}
-use Rattle.answer.specs.declared.Answer.{Answer}
-use Rattle.answer.specs.Numbers.{accepts, no_room, not_encodable, first_refusal, refuse_if}
+use Rattle.answer.specs.declared.Refusal.TheVariants.{NoRoom, NotEncodable}
+use Rattle.answer.specs.Numbers.{Answer, accepts, first_refusal, refuse_if}
+use Rattle.answer.specs.Refusable.{Refusable, change}
 use Rattle.compact.specs.declared.Entry.{Entry}
-use Rattle.compact.specs.declared.Entries.{Entries}
 use Rattle.compact.specs.Compact.{most_instructions, most_accounts, most_payload, encode}
-use Rattle.compact.specs.Entries.{entries_in, list_of, within}
-use Rattle.encoding.specs.declared.Written.{Written}
+use Rattle.compact.specs.Entries.{list_of, within}
 
 -- whether an entry keeps the writer's limits
 unfoldable pub encodable_one : List ℕ → Entry → Bool
@@ -20,23 +19,22 @@ encodable_each source [] = true
 encodable_each source (e ∷ es) = encodable_one source e && encodable_each source es
 
 -- whether a list keeps the writer's limits
-unfoldable pub encodable : List ℕ → Entries → Bool
-encodable source l = leb l.count most_instructions && encodable_each source (entries_in l)
+unfoldable pub encodable : List ℕ → List Entry → Bool
+encodable source es = leb (length es) most_instructions && encodable_each source es
 
 -- the answer to writing: first the limits, then the room
-unfoldable pub writing_answer : Entries → List ℕ → List ℕ → Answer
-writing_answer l source out =
+unfoldable pub writing_answer : List Entry → List ℕ → List ℕ → Answer
+writing_answer es source out =
     first_refusal
-    (refuse_if (not (encodable source l)) not_encodable
-    ∷ refuse_if (ltb (length out) (length (encode (list_of source l)))) no_room
+    (refuse_if (not (encodable source es)) NotEncodable
+    ∷ refuse_if (ltb (length out) (length (encode (list_of source es)))) NoRoom
     ∷ [])
 
--- writing: the answer and the bytes written, none on a refusal
-unfoldable pub writing : Entries → List ℕ → List ℕ → Written
-writing l source out =
-    record { answer = writing_answer l source out; written = cond (accepts (writing_answer l source out)) (length (encode (list_of source l))) 0 }
+-- writing: the bytes written, or the refusal
+unfoldable pub writing : List Entry → List ℕ → List ℕ → Refusable ℕ
+writing es source out = change (λ (done : Unit {0}). length (encode (list_of source es))) (writing_answer es source out)
 
 -- the output afterwards: the encoding, then the rest as it was; all of it as it was on a refusal
-unfoldable pub output_after : Entries → List ℕ → List ℕ → List ℕ
-output_after l source out =
-    cond (accepts (writing_answer l source out)) (encode (list_of source l) ++ drop (length (encode (list_of source l))) out) out
+unfoldable pub output_after : List Entry → List ℕ → List ℕ → List ℕ
+output_after es source out =
+    cond (accepts (writing_answer es source out)) (encode (list_of source es) ++ drop (length (encode (list_of source es))) out) out

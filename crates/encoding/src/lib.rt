@@ -3,155 +3,96 @@
 
 ghost use Rattle.std.specs.Prelude.{◌≡◌, true, ◌+◌, ◌≤◌, length};
 ghost use Rattle.std.proofs.lemmas.List.Edits.{sets};
-ghost use Rattle.answer.specs.Numbers.{answer};
-ghost use Rattle.number.specs.Number.{bytes_of};
-ghost use Rattle.compact.specs.Compact.{most_instructions, encode_one, encode_each, encode};
-ghost use Rattle.compact.specs.Entries.{range_bytes, meant, list_of, entries_in};
+ghost use Rattle.compact.specs.Compact.{most_instructions, encode_one, encode};
+ghost use Rattle.compact.specs.Entries.{meant, list_of};
 ghost use Rattle.encoding.specs.Encoding.{encodable_one, encodable_each, writing, output_after};
 ghost use Rattle.encoding.specs.Views.{size_if};
 
-use answer::{ACCEPTED, Answer, NO_ROOM, NOT_ENCODABLE};
-use compact::{Entries, Entry, MAX_COMPACT_INSTRUCTIONS, Range, within};
+use answer::Refusal;
+use compact::{Entry, MAX_COMPACT_INSTRUCTIONS, within};
 use part::part_at;
 
 pub const MAX_ACCOUNTS: usize = 255;
 
 pub const MAX_PAYLOAD: usize = 65535;
 
-#[derive(Clone, Copy)]
-pub struct Written {
-    pub answer: Answer,
-    pub written: usize,
+// Whether an entry keeps the limits.
+fn is_encodable(entry: Entry, source: &[u8]) -> bool
+    ensures { result ≡ encodable_one source.now entry }
+{
+    entry.accounts.len <= MAX_ACCOUNTS
+        && entry.payload.len <= MAX_PAYLOAD
+        && within(source, entry.accounts)
+        && within(source, entry.payload)
 }
 
-// How many bytes an encoding takes, where the limits are kept.
-#[derive(Clone, Copy)]
-enum Size {
-    Of(usize),
-    NotEncodable,
-}
-
-fn size_of_one(entry: Entry, source: &[u8]) -> Size
+// How many bytes an entry's encoding takes.
+fn size_of_one(entry: Entry, source: &[u8]) -> Result<usize, Refusal>
     ensures { result ≡ size_if (encodable_one source.now entry) (length (encode_one (meant source.now entry))) }
 {
-    let accounts = entry.accounts;
-    let payload = entry.payload;
-    if MAX_ACCOUNTS < accounts.len {
-        return Size::NotEncodable;
+    if !is_encodable(entry, source) {
+        return Err(Refusal::NotEncodable);
     }
-    if MAX_PAYLOAD < payload.len {
-        return Size::NotEncodable;
-    }
-    if !within(source, accounts) {
-        return Size::NotEncodable;
-    }
-    if !within(source, payload) {
-        return Size::NotEncodable;
-    }
-    Size::Of(4 + accounts.len + payload.len)
+    Ok(4 + entry.accounts.len + entry.payload.len)
 }
 
-fn size_of(entries: Entries, source: &[u8]) -> Size
-    requires { entries.count ≤ most_instructions }
-    ensures { result ≡ size_if (encodable_each source.now (entries_in entries)) (length (encode (list_of source.now entries))) }
+fn size_of(entries: &[Entry], source: &[u8]) -> Result<usize, Refusal>
+    requires { length entries.now ≤ most_instructions }
+    ensures { result ≡ size_if (encodable_each source.now entries.now) (length (encode (list_of source.now entries.now))) }
 {
-    let count = entries.count;
     let mut size = 1;
-    let mut i = 0;
-    while i < count {
-        let entry = entries.list[i];
-        let Size::Of(more) = size_of_one(entry, source) else {
-            return Size::NotEncodable;
-        };
-        size += more;
-        i += 1;
+    for entry in entries {
+        size += size_of_one(*entry, source)?;
     }
-    Size::Of(size)
+    Ok(size)
 }
 
-// Writes the lowest `width` bytes of `value` at `at`, the lowest first.
-fn put_number(out: &mut [u8], at: usize, width: usize, value: usize)
-    requires { at + width ≤ length out.old }
-    ensures { out.new ≡ sets out.old at (bytes_of width value) }
+// Writes `bytes` at `at`, and gives the place after them.
+fn put(out: &mut [u8], at: usize, bytes: &[u8]) -> usize
+    requires { at + length bytes.now ≤ length out.old }
+    ensures place { result ≡ at + length bytes.now }
+    ensures after { out.new ≡ sets out.old at bytes.now }
 {
-    let mut left = value;
-    let mut i = 0;
-    while i < width {
-        out[at + i] = (left % 256) as u8;
-        left = left / 256;
-        i += 1;
-    }
+    let end = at + bytes.len();
+    out[at..end].copy_from_slice(bytes);
+    end
 }
 
-// Writes the bytes that a range names at `at`, and gives the place after them.
-fn put_part(out: &mut [u8], at: usize, source: &[u8], range: Range) -> usize
-    requires { (range.start + range.len ≤ length source.now) × (at + range.len ≤ length out.old) }
-    ensures { (result ≡ at + range.len) × (out.new ≡ sets out.old at (range_bytes source.now range)) }
-{
-    let bytes = part_at(source, range.start, range.len);
-    let mut i = 0;
-    while i < bytes.len() {
-        out[at + i] = bytes[i];
-        i += 1;
-    }
-    at + bytes.len()
-}
-
+// Writes an entry's encoding at `at`, and gives the place after it.
 fn put_one(out: &mut [u8], at: usize, source: &[u8], entry: Entry) -> usize
-    requires { (encodable_one source.now entry ≡ true) × (at + length (encode_one (meant source.now entry)) ≤ length out.old) }
-    ensures { (result ≡ at + length (encode_one (meant source.now entry))) × (out.new ≡ sets out.old at (encode_one (meant source.now entry))) }
+    requires encodable { encodable_one source.now entry ≡ true }
+    requires room { at + length (encode_one (meant source.now entry)) ≤ length out.old }
+    ensures place { result ≡ at + length (encode_one (meant source.now entry)) }
+    ensures after { out.new ≡ sets out.old at (encode_one (meant source.now entry)) }
 {
-    let accounts = entry.accounts;
-    let payload = entry.payload;
-    out[at] = entry.program;
-    put_number(out, at + 1, 1, accounts.len);
-    let then = put_part(out, at + 2, source, accounts);
-    put_number(out, then, 2, payload.len);
-    put_part(out, then + 2, source, payload)
-}
-
-// Writes the entries one after the other, after the count.
-fn put_each(out: &mut [u8], source: &[u8], entries: Entries)
-    requires { (entries.count ≤ most_instructions) × (encodable_each source.now (entries_in entries) ≡ true) × (length (encode (list_of source.now entries)) ≤ length out.old) }
-    ensures { out.new ≡ sets out.old 1 (encode_each (list_of source.now entries)) }
-{
-    let count = entries.count;
-    let mut at = 1;
-    let mut i = 0;
-    while i < count {
-        let entry = entries.list[i];
-        at = put_one(out, at, source, entry);
-        i += 1;
-    }
-}
-
-fn not_written(number: u32) -> Written
-    ensures { result ≡ record { answer = answer number; written = 0 } }
-{
-    let answer = Answer::of(number);
-    Written { answer, written: 0 }
+    let accounts = part_at(source, entry.accounts.start, entry.accounts.len);
+    let payload = part_at(source, entry.payload.start, entry.payload.len);
+    let then = put(out, at, &[entry.program, accounts.len() as u8]);
+    let then = put(out, then, accounts);
+    let then = put(out, then, &(payload.len() as u16).to_le_bytes());
+    put(out, then, payload)
 }
 
 // Writes a list at the front of `out`; what follows the encoding stays as it was, and on a refusal
 // all of it does.
-pub fn serialize_compact_instructions(entries: Entries, source: &[u8], out: &mut [u8]) -> Written
-    ensures { (result ≡ writing entries source.now out.old) × (out.new ≡ output_after entries source.now out.old) }
+pub fn serialize_compact_instructions(
+    entries: &[Entry],
+    source: &[u8],
+    out: &mut [u8],
+) -> Result<usize, Refusal>
+    ensures written { result ≡ writing entries.now source.now out.old }
+    ensures after { out.new ≡ output_after entries.now source.now out.old }
 {
-    let room = out.len();
-    if entries.count > MAX_COMPACT_INSTRUCTIONS {
-        return not_written(NOT_ENCODABLE); // more than sixteen entries
+    if entries.len() > MAX_COMPACT_INSTRUCTIONS {
+        return Err(Refusal::NotEncodable);
     }
-    let Size::Of(size) = size_of(entries, source) else {
-        return not_written(NOT_ENCODABLE);
-    };
-    if room < size {
-        return not_written(NO_ROOM);
+    let size = size_of(entries, source)?;
+    if out.len() < size {
+        return Err(Refusal::NoRoom);
     }
-    put_number(out, 0, 1, entries.count);
-    put_each(out, source, entries);
-    let answer = Answer::of(ACCEPTED);
-    Written {
-        answer,
-        written: size,
+    let mut at = put(out, 0, &[entries.len() as u8]);
+    for entry in entries {
+        at = put_one(out, at, source, *entry);
     }
+    Ok(at)
 }

@@ -3,8 +3,10 @@
 #![tactic(auto)]
 
 ghost use Rattle.std.specs.Prelude.{◌≡◌};
-ghost use Rattle.frame.specs.Frame.{opening_size, parts_length, whole_call, front_of};
+ghost use Rattle.frame.specs.Frame.{opening_size, part_in, parts_length, whole_call, front_of};
 ghost use Rattle.frame.specs.Views.{call_size};
+
+use part::part_at;
 
 pub const REGION_LENGTH_SIZE: usize = 2;
 
@@ -35,6 +37,15 @@ pub struct Part {
     pub len: usize,
 }
 
+impl Part {
+    // The bytes that it names, nothing where they are not all there.
+    pub fn of(self, bytes: &[u8]) -> &[u8]
+        ensures { result.now ≡ part_in bytes.now self }
+    {
+        part_at(bytes, self.at, self.len)
+    }
+}
+
 // A call as it lies in some bytes: its four numbers, and where its vault key, tables and instructions lie.
 #[derive(Clone, Copy)]
 pub struct CallView {
@@ -48,7 +59,8 @@ pub struct CallView {
     pub instructions: Part,
 }
 
-// What some bytes begin with: a whole call, a call whose parts are too long, or too few bytes to tell.
+// What some bytes begin with: a whole call, a call whose parts are too long, or too few bytes to tell. An enum
+// and no `Result`: the definition `front_of` has its three cases, and neither of the last two is an error yet.
 #[derive(Clone, Copy)]
 pub enum Front {
     Whole(CallView),
@@ -63,13 +75,42 @@ pub fn opening_size(bytes: &[u8]) -> usize
     REGION_LENGTH_SIZE + number::read_u16(bytes, 0) as usize
 }
 
+// The call whose head stands at the front, as if its parts were there.
+fn whole_call(bytes: &[u8]) -> CallView
+    ensures { result ≡ whole_call bytes.now }
+{
+    let before = Part {
+        at: CALL_HEAD_SIZE,
+        len: number::read_u32(bytes, TABLE_BEFORE_PLACE) as usize,
+    };
+    let after = Part {
+        at: before.at + before.len,
+        len: number::read_u32(bytes, TABLE_AFTER_PLACE) as usize,
+    };
+    let instructions = Part {
+        at: after.at + after.len,
+        len: number::read_u32(bytes, INSTRUCTIONS_PLACE) as usize,
+    };
+    CallView {
+        slot: number::read_u64(bytes, 0),
+        lamports_before: number::read_u64(bytes, LAMPORTS_BEFORE_PLACE),
+        lamports_after: number::read_u64(bytes, LAMPORTS_AFTER_PLACE),
+        gross: number::read_u64(bytes, GROSS_PLACE),
+        vault: Part {
+            at: VAULT_PLACE,
+            len: VAULT_LENGTH,
+        },
+        before,
+        after,
+        instructions,
+    }
+}
+
 fn parts_length(bytes: &[u8]) -> usize
     ensures { result ≡ parts_length bytes.now }
 {
-    let before = number::read_u32(bytes, TABLE_BEFORE_PLACE) as usize;
-    let after = number::read_u32(bytes, TABLE_AFTER_PLACE) as usize;
-    let instructions = number::read_u32(bytes, INSTRUCTIONS_PLACE) as usize;
-    before + after + instructions
+    let call = whole_call(bytes);
+    call.before.len + call.after.len + call.instructions.len
 }
 
 // How many bytes a call has, as far as these tell: its head, and with a whole head its parts, unless
@@ -85,40 +126,6 @@ pub fn call_size(bytes: &[u8]) -> usize
         return CALL_HEAD_SIZE;
     }
     CALL_HEAD_SIZE + len
-}
-
-fn whole_call(bytes: &[u8]) -> CallView
-    ensures { result ≡ whole_call bytes.now }
-{
-    let before = number::read_u32(bytes, TABLE_BEFORE_PLACE) as usize;
-    let after = number::read_u32(bytes, TABLE_AFTER_PLACE) as usize;
-    let instructions = number::read_u32(bytes, INSTRUCTIONS_PLACE) as usize;
-    let slot = number::read_u64(bytes, 0);
-    let lamports_before = number::read_u64(bytes, LAMPORTS_BEFORE_PLACE);
-    let lamports_after = number::read_u64(bytes, LAMPORTS_AFTER_PLACE);
-    let gross = number::read_u64(bytes, GROSS_PLACE);
-    CallView {
-        slot,
-        lamports_before,
-        lamports_after,
-        gross,
-        vault: Part {
-            at: VAULT_PLACE,
-            len: VAULT_LENGTH,
-        },
-        before: Part {
-            at: CALL_HEAD_SIZE,
-            len: before,
-        },
-        after: Part {
-            at: CALL_HEAD_SIZE + before,
-            len: after,
-        },
-        instructions: Part {
-            at: CALL_HEAD_SIZE + before + after,
-            len: instructions,
-        },
-    }
 }
 
 pub fn read_call(bytes: &[u8]) -> Front

@@ -8,7 +8,7 @@ ghost use Rattle.framed.specs.Views.{opening_heard, call_heard, region_heard};
 
 use answer::Answer;
 use frame::{CallView, Front, REGION_LENGTH_SIZE};
-use part::part_at;
+use judge::Call;
 
 // What some bytes come to: more of them are needed, a call is too long, a region of some length was
 // answered, or a call was.
@@ -25,20 +25,18 @@ pub fn judge_call(region: &mut [u8], bytes: &[u8], call: CallView) -> Answer
     ensures value { result ≡ judged region.old (call_in bytes.now call) }
     ensures region_after { region.new ≡ region_after region.old (call_in bytes.now call) }
 {
-    let before = call.before;
-    let after = call.after;
-    let instructions = call.instructions;
-    let vault = call.vault;
     judge::judge(
         region,
-        part_at(bytes, before.at, before.len),
-        part_at(bytes, after.at, after.len),
-        part_at(bytes, instructions.at, instructions.len),
-        part_at(bytes, vault.at, vault.len),
-        call.slot,
-        call.lamports_before,
-        call.lamports_after,
-        call.gross,
+        Call {
+            before: call.before.of(bytes),
+            after: call.after.of(bytes),
+            instructions: call.instructions.of(bytes),
+            vault: call.vault.of(bytes),
+            slot: call.slot,
+            lamports_before: call.lamports_before,
+            lamports_after: call.lamports_after,
+            gross: call.gross,
+        },
     )
 }
 
@@ -50,8 +48,8 @@ pub fn hear_opening(bytes: &[u8]) -> Heard
     if bytes.len() < size {
         return Heard::Waiting;
     }
-    let answer = creation::validate_actions_buffer(&bytes[REGION_LENGTH_SIZE..size]);
-    Heard::Opened(size - REGION_LENGTH_SIZE, answer)
+    let region = &bytes[REGION_LENGTH_SIZE..size];
+    Heard::Opened(region.len(), creation::validate_actions_buffer(region))
 }
 
 // Hears the bytes of a call; a whole one is judged on the region.
@@ -59,8 +57,7 @@ pub fn hear_call(region: &mut [u8], bytes: &[u8]) -> Heard
     ensures value { result ≡ call_heard region.old bytes.now }
     ensures region_after { region.new ≡ region_heard region.old bytes.now }
 {
-    let front = frame::read_call(bytes);
-    match front {
+    match frame::read_call(bytes) {
         Front::Whole(call) => Heard::Judged(judge_call(region, bytes, call)),
         Front::Long => Heard::TooLong,
         Front::Short => Heard::Waiting,

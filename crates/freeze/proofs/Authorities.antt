@@ -6,7 +6,7 @@ use mathlib.Core.Bool.{Bool, true, false, ◌&&◌, and-false}
 use mathlib.Core.List.{List, ◌++◌}
 use Prim.Native.Nat.{ℕ, ◌+◌, ◌<◌, ◌≤◌}
 use native.Mathlib.Omega.{arith}
-use borrow.Author.Tests.{eq-eqb, ne_eqb, leb-true, leb-false}
+use borrow.Author.Tests.{leb-true, leb-false}
 use lib.Dec.{eqb, leb}
 use lib.ListN.{length, take, drop}
 use lib.Seq.{take-add, drop-drop}
@@ -55,14 +55,6 @@ module _ (p q : List ℕ) (bp : Bytes p) (bq : Bytes q) (at : ℕ) (hq : at + 36
           let other : length (part_at q at 36) ≡ length (part_at p at 36) → ⊥ = rw (part_past p at 36 short, length_part_there q at 36 hq) (λ same. omega arith) in
           rw (left_short p q (at + 4) (omega arith), and-false) (sym (lengths_differ (part_at p at 36) (part_at q at 36) other))
 
--- the tags decide first
-module _ (p q : List ℕ) (tag at x y : ℕ) (ex : x ≡ number_at 4 p tag) (ey : y ≡ number_at 4 q tag) where
-  pub tag_changed : (x ≡ y → ⊥) → same_optional_key_at tag at p q ≡ false
-  tag_changed h = rw (← ex, ← ey, ne_eqb x y h)
-
-  pub tag_same : x ≡ y → same_optional_key_at tag at p q ≡ same_key_at at p q
-  tag_same h = rw (← ex, ← ey, eq-eqb x y h)
-
 -- ---- all three
 
 module _ (p q : List ℕ) (bp : Bytes p) (bq : Bytes q) where
@@ -80,13 +72,3 @@ module _ (p q : List ℕ) (bp : Bytes p) (bq : Bytes q) where
       go false e =
           let short : length q < 165 = leb-false _ _ e in
           rw (right_short p q 133 (omega arith), and-false (eqb (number_at 4 p 129) (number_at 4 q 129)), and-false)
-
-  pub owner_changed : same_key_at 32 p q ≡ false → there_and_same ≡ false
-  owner_changed e = rw e at authorities_as_keys
-
-  module _ (o : same_key_at 32 p q ≡ true) where
-    pub delegate_changed : same_optional_key_at 72 76 p q ≡ false → there_and_same ≡ false
-    delegate_changed e = rw (o, e) at authorities_as_keys
-
-    pub close_authority_decides : same_optional_key_at 72 76 p q ≡ true → there_and_same ≡ same_optional_key_at 129 133 p q
-    close_authority_decides e = rw (o, e) at authorities_as_keys

@@ -9,9 +9,10 @@ use native.Mathlib.Omega.{arith}
 use borrow.Author.Tests.{le-leb}
 use lib.Dec.{eqb, ltb, lit≤}
 use lib.ListN.{length, length-append, length-map}
-use Rattle.answer.specs.declared.Answer.{Answer}
-use Rattle.answer.specs.Numbers.{answer, accepted, accepts, first_refusal, refuse_if, in_table}
-use Rattle.answer.specs.Refusable.{Refusable, given, refused}
+use Rattle.answer.specs.declared.Refusal.{Refusal}
+use Rattle.answer.specs.declared.Refusal.TheVariants.{InvalidInstructionData, ActionProgramNotWhitelisted, ActionProgramBlacklisted, ActionSolMaxPerTxExceeded, ActionSolLimitExceeded, ActionSolRecurringLimitExceeded, ActionTokenMaxPerTxExceeded, ActionTokenLimitExceeded, ActionTokenRecurringLimitExceeded, SessionTokenAuthorityChanged, BadTable}
+use Rattle.answer.specs.Numbers.{Answer, number_of, refusal_number, accepts, first_refusal, refuse_if, in_table}
+use Rattle.answer.specs.Refusable.{Refusable, Ok, Err}
 use Rattle.answer.proofs.Laws.{first_passes, first_refuses, no_rule, EachAccepts, each_accepts}
 use Rattle.number.specs.Number.{Bytes}
 use Rattle.action.specs.Action.{Action, sol_limit, sol_recurring_limit, sol_max_per_tx, token_limit, token_recurring_limit, token_max_per_tx}
@@ -36,7 +37,7 @@ use Rattle.charge.proofs.Accepting.{EachKept, each_kept}
 use Rattle.programs.specs.Programs.{in_live_list, lists_answer, program_answer, programs_answer}
 use Rattle.freeze.specs.Freeze.{all_frozen}
 use Rattle.judge.specs.Judge.{Call, answer_of, records_before, records_after, program_indexes, instructions_answer, actions_of, amount_for, charged, soundness, rules, steps, judged, region_after}
-use Rattle.judge.proofs.Steps.{refused_keeps, stored_refusal, stored_given}
+use Rattle.judge.proofs.Steps.{refused_keeps, stored_refusal}
 
 -- a refusal leaves the region as it was
 pub a_refusal_leaves_the_region : (region : List ℕ) (call : Call) → accepts (judged region call) ≡ false → region_after region call ≡ region
@@ -46,7 +47,7 @@ a_refusal_leaves_the_region region call e = refused_keeps region call e
 
 module _ (most : ℕ) (enough : 13 ≤ most) where
   abbrev Listed : Answer → Type 0
-  Listed a = a.number ≤ most
+  Listed a = number_of a ≤ most
 
   abbrev AllListed : List Answer → Type 0
   AllListed [] = Unit {0}
@@ -64,11 +65,12 @@ module _ (most : ℕ) (enough : 13 ≤ most) where
   each_listed f h [] = tt
   each_listed f h (x ∷ l) = (h x, each_listed f h l)
 
-  refusal_listed : (kind : ℕ) → refusal_of kind ≤ most
+  refusal_listed : (kind : ℕ) → Listed (refusal_of kind)
   unfolding refusal_of
   refusal_listed kind = among (eqb kind sol_limit) (eqb kind sol_recurring_limit) (eqb kind sol_max_per_tx) (eqb kind token_limit) (eqb kind token_recurring_limit) (eqb kind token_max_per_tx)
     where
-      among : (a b c d e f : Bool) → cond a 7 (cond b 8 (cond c 6 (cond d 10 (cond e 11 (cond f 9 0))))) ≤ most
+      among : (a b c d e f : Bool)
+          → Listed (cond a (Err ActionSolLimitExceeded) (cond b (Err ActionSolRecurringLimitExceeded) (cond c (Err ActionSolMaxPerTxExceeded) (cond d (Err ActionTokenLimitExceeded) (cond e (Err ActionTokenRecurringLimitExceeded) (cond f (Err ActionTokenMaxPerTxExceeded) (Ok tt)))))))
       among true b c d e f = omega arith
       among false true c d e f = omega arith
       among false false true d e f = omega arith
@@ -77,33 +79,37 @@ module _ (most : ℕ) (enough : 13 ≤ most) where
       among false false false false false true = omega arith
       among false false false false false false = omega arith
 
-  rule_listed : (broken : Bool) (n : ℕ) → n ≤ most → Listed (refuse_if broken n)
-  rule_listed true n h = h
-  rule_listed false n h = omega arith
+  rule_listed : (broken : Bool) (r : Refusal) → refusal_number r ≤ most → Listed (refuse_if broken r)
+  rule_listed true r h = h
+  rule_listed false r h = omega arith
 
   class_listed : (class : Class) (slot : ℕ) (cs : List Charge) → Listed (class_answer class slot cs)
   unfolding class_answer rule_answer
   class_listed class slot cs = first_listed _ (each_listed _ one cs)
     where
-      one : (c : Charge) → Listed (cond (of_class class c.act.kind) (rule_answer slot c) (answer accepted))
+      one : (c : Charge) → Listed (cond (of_class class c.act.kind) (rule_answer slot c) (Ok tt))
       one c = go (of_class class c.act.kind)
         where
-          go : (b : Bool) → Listed (cond b (rule_answer slot c) (answer accepted))
-          go true = rule_listed (breaks slot c.amount c.act) (refusal_of c.act.kind) (refusal_listed c.act.kind)
+          go : (b : Bool) → Listed (cond b (rule_answer slot c) (Ok tt))
+          go true = kept_or_refused (breaks slot c.amount c.act)
+            where
+              kept_or_refused : (t : Bool) → Listed (cond t (refusal_of c.act.kind) (Ok tt))
+              kept_or_refused true = refusal_listed c.act.kind
+              kept_or_refused false = omega arith
           go false = omega arith
 
   lists_listed : (slot : ℕ) (l : List Action) (key : List ℕ) → Listed (lists_answer slot l key)
   unfolding lists_answer
   lists_listed slot l key =
       first_listed _ (
-        rule_listed (ltb 0 (how_often 10 (kinds_of l)) && not (in_live_list 10 slot key l)) 4 (omega arith),
-        (rule_listed (in_live_list 11 slot key l) 5 (omega arith), tt),
+        rule_listed (ltb 0 (how_often 10 (kinds_of l)) && not (in_live_list 10 slot key l)) ActionProgramNotWhitelisted (omega arith),
+        (rule_listed (in_live_list 11 slot key l) ActionProgramBlacklisted (omega arith), tt),
       )
 
   program_listed : (slot : ℕ) (l : List Action) (records : List Record) (program : ℕ) → Listed (program_answer slot l records program)
   unfolding program_answer
   program_listed slot l records program =
-      first_listed _ (rule_listed (not (ltb program (length records))) 3 (omega arith), (lists_listed slot l (key_among records program), tt))
+      first_listed _ (rule_listed (not (ltb program (length records))) InvalidInstructionData (omega arith), (lists_listed slot l (key_among records program), tt))
 
   programs_listed : (slot : ℕ) (l : List Action) (records : List Record) (programs : List ℕ) → Listed (programs_answer slot l records programs)
   unfolding programs_answer
@@ -113,8 +119,8 @@ module _ (most : ℕ) (enough : 13 ≤ most) where
   table_listed s = go (cut_table s) refl
     where
       go : (x : Refusable (List Record)) → cut_table s ≡ x → Listed (answer_of x)
-      go (given l) e = omega arith
-      go (refused r) e = subst Listed (sym (every_refusal_of_a_table_is_13 s r e)) (omega arith)
+      go (Ok l) e = omega arith
+      go (Err r) e = subst (λ (q : Refusal). refusal_number q ≤ most) (sym (every_refusal_of_a_table_is_13 s r e)) (omega arith)
 
   read_listed : (o : Option (Read (List Instruction))) → Listed (instructions_answer o)
   read_listed none = omega arith
@@ -123,38 +129,42 @@ module _ (most : ℕ) (enough : 13 ≤ most) where
   steps_listed : (region : List ℕ) (call : Call) → Listed (answer_of (stored_actions region)) → AllListed (steps region call)
   unfolding steps soundness rules
   steps_listed region call stored =
-      (rule_listed (not (eqb (length call.vault) 32)) 13 enough, (table_listed call.before, (table_listed call.after, (read_listed (decode call.instructions), (stored, ruled (actions_of (stored_actions region)))))))
+      (rule_listed (not (eqb (length call.vault) 32)) BadTable enough, (table_listed call.before, (table_listed call.after, (read_listed (decode call.instructions), (stored, ruled (actions_of (stored_actions region)))))))
     where
       ruled : (l : List Action) → AllListed (elim l [ [] ↦ [] | a ∷ k ↦ rules call (a ∷ k) ])
       ruled [] = tt
-      ruled (a ∷ k) = (programs_listed call.slot (a ∷ k) (records_before call) (program_indexes (decode call.instructions)), (rule_listed (not (all_frozen call.vault (λ (mint : List ℕ). is_listed mint (a ∷ k)) (records_after call) (records_before call))) 12 (omega arith), (class_listed Sol call.slot (charged call (a ∷ k)), (class_listed Tokens call.slot (charged call (a ∷ k)), tt))))
+      ruled (a ∷ k) = (programs_listed call.slot (a ∷ k) (records_before call) (program_indexes (decode call.instructions)), (rule_listed (not (all_frozen call.vault (λ (mint : List ℕ). is_listed mint (a ∷ k)) (records_after call) (records_before call))) SessionTokenAuthorityChanged (omega arith), (class_listed Sol call.slot (charged call (a ∷ k)), (class_listed Tokens call.slot (charged call (a ∷ k)), tt))))
 
   answer_listed : (region : List ℕ) (call : Call) → Listed (answer_of (stored_actions region)) → Listed (judged region call)
   unfolding judged
   answer_listed region call stored = first_listed (steps region call) (steps_listed region call stored)
 
-region_listed : (s : List ℕ) → (answer_of (stored_actions s)).number ≤ 16
+region_listed : (s : List ℕ) → number_of (answer_of (stored_actions s)) ≤ 16
 region_listed s = go (stored_actions s) refl
   where
-    go : (x : Refusable (List Action)) → stored_actions s ≡ x → (answer_of x).number ≤ 16
-    go (given l) e = omega arith
-    go (refused r) e = subst (λ (a : Answer). a.number ≤ 16) (sym (stored_refusal s r e)) (omega arith)
+    go : (x : Refusable (List Action)) → stored_actions s ≡ x → number_of (answer_of x) ≤ 16
+    go (Ok l) e = omega arith
+    go (Err r) e = subst (λ (q : Refusal). refusal_number q ≤ 16) (sym (stored_refusal s r e)) (omega arith)
 
 -- every number answered is in the table
-pub every_number_answered_is_in_the_table : (region : List ℕ) (call : Call) → in_table (judged region call).number ≡ true
+pub every_number_answered_is_in_the_table : (region : List ℕ) (call : Call) → in_table (number_of (judged region call)) ≡ true
 unfolding in_table
 every_number_answered_is_in_the_table region call = le-leb _ _ (answer_listed 16 (lit≤ tt) region call (region_listed region))
 
 -- a region in stored form is never answered with a number above 13, so not with 15
-pub a_stored_region_is_not_refused_as_such : (region : List ℕ) (call : Call) {l : List Action} → stored_actions region ≡ given l → (judged region call).number ≤ 13
+pub a_stored_region_is_not_refused_as_such : (region : List ℕ) (call : Call) {l : List Action} → stored_actions region ≡ Ok l → number_of (judged region call) ≤ 13
 a_stored_region_is_not_refused_as_such region call e =
-    answer_listed 13 (lit≤ tt) region call (subst (λ (x : Refusable (List Action)). (answer_of x).number ≤ 13) (sym e) (omega arith))
+    answer_listed 13 (lit≤ tt) region call (subst (λ (x : Refusable (List Action)). number_of (answer_of x) ≤ 13) (sym e) (omega arith))
 
 -- only a region in stored form is accepted
-pub what_is_accepted_is_in_stored_form : (region : List ℕ) (call : Call) → accepts (judged region call) ≡ true → (l : List Action) × (stored_actions region ≡ given l)
+pub what_is_accepted_is_in_stored_form : (region : List ℕ) (call : Call) → accepts (judged region call) ≡ true → (l : List Action) × (stored_actions region ≡ Ok l)
 unfolding judged steps soundness
 what_is_accepted_is_in_stored_form region call h =
-    stored_given region (stored_actions region) refl (each_accepts (steps region call) h).1.1.1.1.0
+    go (stored_actions region) refl (each_accepts (steps region call) h).1.1.1.1.0
+  where
+    go : (x : Refusable (List Action)) → stored_actions region ≡ x → accepts (answer_of x) ≡ true → (l : List Action) × (stored_actions region ≡ Ok l)
+    go (Ok l) e accepted = (l, e)
+    go (Err r) e accepted = absurd (let n : ◌≡◌ {A = ℕ} 0 1 = cc in omega arith)
 
 -- ---- what an accepted call makes of a region's actions
 
@@ -176,7 +186,7 @@ module _ (call : Call) where
       length-append (glue_one b) _
       ∙ rw (length-glue_one b, changed-length (writes call a) a, as_long l) (sym (length-append (glue_one a) (glue l) ∙ rw (length-glue_one a)))
 
-  module _ (region : List ℕ) {l : List Action} (stored : stored_actions region ≡ given l) (h : accepts (judged region call) ≡ true) where
+  module _ (region : List ℕ) {l : List Action} (stored : stored_actions region ≡ Ok l) (h : accepts (judged region call) ≡ true) where
     -- the region is its changed actions, glued
     pub region_written : region_after region call ≡ glue (map (λ (a : Action). changed (writes call a) a) l)
     unfolding region_after
@@ -186,7 +196,7 @@ module _ (call : Call) where
         ∙ ap glue (settled_is_changed l)
 
     -- the stored form is kept: those are its actions
-    pub an_accepted_call_keeps_the_stored_form : Bytes region → stored_actions (region_after region call) ≡ given (map (λ (a : Action). changed (writes call a) a) l)
+    pub an_accepted_call_keeps_the_stored_form : Bytes region → stored_actions (region_after region call) ≡ Ok (map (λ (a : Action). changed (writes call a) a) l)
     an_accepted_call_keeps_the_stored_form bytes =
         let (regular, few) = stored_is_regular region l bytes stored in
         let form = (stored_is_formed region l stored).1 in

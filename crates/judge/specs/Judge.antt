@@ -2,9 +2,9 @@
 -- Assumes nothing.
 use Rattle.std.specs.Prelude.{ℕ, not, cond, List, [], ◌∷◌, ◌++◌, map, eqb, length}
 use Rattle.std.proofs.Math.Option.{Option, none, some}
-use Rattle.answer.specs.declared.Answer.{Answer}
-use Rattle.answer.specs.Numbers.{answer, accepted, accepts, first_refusal, refuse_if, bad_table, invalid_instruction_data, session_token_authority_changed}
-use Rattle.answer.specs.Refusable.{Refusable, given, refused}
+use Rattle.answer.specs.declared.Refusal.TheVariants.{InvalidInstructionData, SessionTokenAuthorityChanged, BadTable}
+use Rattle.answer.specs.Numbers.{Answer, accepts, first_refusal, refuse_if}
+use Rattle.answer.specs.Refusable.{Refusable, Ok, Err}
 use Rattle.key.specs.Key.{key_length}
 use Rattle.action.specs.Action.{Action}
 use Rattle.region.specs.Region.{glue}
@@ -46,8 +46,8 @@ call_of before after instructions vault slot lamports_before lamports_after gros
 
 -- the answer of what gives a value or refuses
 abbrev pub answer_of : {A : Type 0} → Refusable A → Answer
-answer_of (given a) = answer accepted
-answer_of (refused r) = r
+answer_of (Ok a) = Ok tt
+answer_of (Err r) = Err r
 
 -- the records of the table before, and of the table after
 unfoldable pub records_before : Call → List Record
@@ -63,13 +63,13 @@ program_indexes (some d) = map (λ (i : Instruction). i.program) d.value
 
 -- the answer to reading the instructions
 abbrev pub instructions_answer : Option (Read (List Instruction)) → Answer
-instructions_answer none = answer invalid_instruction_data
-instructions_answer (some d) = answer accepted
+instructions_answer none = Err InvalidInstructionData
+instructions_answer (some d) = Ok tt
 
 -- the actions of a region, none where it is not in stored form
 abbrev pub actions_of : Refusable (List Action) → List Action
-actions_of (given l) = l
-actions_of (refused r) = []
+actions_of (Ok l) = l
+actions_of (Err r) = []
 
 -- the amount that an action's rule looks at: the decrease of its mint's balance; for SolMaxPerTx the gross outflow; else the decrease in lamports
 unfoldable pub amount_for : Call → Action → ℕ
@@ -85,7 +85,7 @@ charged call l = map (λ (a : Action). record { act = a; amount = amount_for cal
 -- steps 1 to 3: the vault key, both tables, the instructions, the region
 unfoldable pub soundness : List ℕ → Call → List Answer
 soundness region call =
-    refuse_if (not (eqb (length call.vault) key_length)) bad_table
+    refuse_if (not (eqb (length call.vault) key_length)) BadTable
     ∷ answer_of (cut_table call.before)
     ∷ answer_of (cut_table call.after)
     ∷ instructions_answer (decode call.instructions)
@@ -97,7 +97,7 @@ unfoldable pub rules : Call → List Action → List Answer
 unfolding charged records_before records_after
 rules call l =
     programs_answer call.slot l (records_before call) (program_indexes (decode call.instructions))
-    ∷ refuse_if (not (all_frozen call.vault (λ (mint : List ℕ). is_listed mint l) (records_after call) (records_before call))) session_token_authority_changed
+    ∷ refuse_if (not (all_frozen call.vault (λ (mint : List ℕ). is_listed mint l) (records_after call) (records_before call))) SessionTokenAuthorityChanged
     ∷ class_answer Sol call.slot (charged call l)
     ∷ class_answer Tokens call.slot (charged call l)
     ∷ []

@@ -2,7 +2,7 @@
 -- Assumes nothing.
 use Rattle.std.specs.Prelude.{ℕ, ◌-◌, ◌^◌, List, [], ◌∷◌, ◌++◌, replicate}
 use Rattle.answer.specs.NamedValue.{NamedValue}
-use Rattle.answer.specs.Numbers.{accepted, action_sol_max_per_tx_exceeded, action_sol_limit_exceeded, action_sol_recurring_limit_exceeded}
+use Rattle.answer.specs.Numbers.{number_of, accepted, action_sol_max_per_tx_exceeded, action_sol_limit_exceeded, action_sol_recurring_limit_exceeded}
 use Rattle.number.specs.Number.{bytes_of}
 use Rattle.action.specs.Action.{sol_limit, sol_recurring_limit, sol_max_per_tx}
 use Rattle.region.specs.Region.{glue}
@@ -45,7 +45,7 @@ spending slot decrease = called slot decrease 0 0
 
 -- what a judged call gives: the answer, and the region afterwards
 unfoldable pub outcome : List ℕ → Call → List ℕ
-outcome region call = (judged region call).number ∷ region_after region call
+outcome region call = number_of (judged region call) ∷ region_after region call
 
 unfoldable pub call_values : List NamedValue
 unfolding left recurring spending outcome

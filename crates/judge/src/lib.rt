@@ -1,209 +1,133 @@
 // The judged call: the nine steps in order.
 #![tactic(auto)]
 
-ghost use Rattle.std.specs.Prelude.{◌≡◌, true, cond, map, length};
+ghost use Rattle.std.specs.Prelude.{◌≡◌, cond, length};
 ghost use Rattle.answer.specs.Numbers.{accepts};
+ghost use Rattle.answer.specs.Refusable.{Ok};
 ghost use Rattle.row.specs.Views.{actions_in};
-ghost use Rattle.account.specs.Views.{records_in};
-ghost use Rattle.table.specs.Table.{cut_table, records_of};
-ghost use Rattle.balance.specs.Views.{sums_of};
+ghost use Rattle.account.specs.Views.{records_in, table_records};
+ghost use Rattle.table.specs.Table.{cut_table};
 ghost use Rattle.charge.specs.Views.{charges_at, settled_at};
-ghost use Rattle.outflow.specs.Outflow.{amount_from};
-ghost use Rattle.judge.specs.Judge.{call_of, answer_of, judged, region_after};
-ghost use Rattle.judge.specs.Views.{checks_from, limits_from, rules_from};
+ghost use Rattle.judge.specs.Judge.{judged, region_after};
+ghost use Rattle.judge.specs.Views.{call_lent, amounts_moved, checks_from, limits_from, rules_from};
 
-use account::places_in;
-use answer::{ACCEPTED, Answer, BAD_TABLE, SESSION_TOKEN_AUTHORITY_CHANGED};
+use account::{RecordView, Table};
+use action::ActionView;
+use answer::{Answer, Refusal};
 use charge::{Class, class_answer, settle};
-use compact::{parse_programs, programs_in};
+use compact::parse_programs;
 use creation::stored_answer;
 use freeze::verify_token_authorities_unchanged;
 use key::KEY_LENGTH;
 use keys::Keys;
 use mints::listed_mints;
 use number::floored_difference;
-use outflow::amounts;
+use outflow::Outflow;
 use programs::evaluate_pre_actions;
-use region::parse::parse_actions;
-use row::{actions_in, how_many};
+use region::parse_actions;
 use table::cut_places;
 
-// Steps 5 and 6: the programs and the freeze.
+// What a judged call is given besides the region.
+#[derive(Clone, Copy)]
+pub struct Call<'a> {
+    pub before: &'a [u8],
+    pub after: &'a [u8],
+    pub instructions: &'a [u8],
+    pub vault: &'a [u8],
+    pub slot: u64,
+    pub lamports_before: u64,
+    pub lamports_after: u64,
+    pub gross: u64,
+}
+
+// Steps 5 and 6: the programs and the freeze. Six parameters: each of the two takes its own, and `moved` alone
+// is common.
 fn checks_answer(
     region: &[u8],
-    actions: &[u64],
-    before: &[u8],
-    before_places: &[usize],
-    after: &[u8],
-    after_places: &[usize],
+    views: &[ActionView],
+    moved: &Outflow,
     programs: &[usize],
-    vault: &[u8],
     slot: u64,
-    mints: Keys,
+    mints: &Keys,
 ) -> Answer
-    ensures { result ≡ checks_from slot vault.now (records_in before.now before_places.now) (records_in after.now after_places.now) programs.now mints (actions_in region.now actions.now) }
+    ensures { result ≡ checks_from slot moved.now.vault.now (table_records moved.now.before) (table_records moved.now.after) programs.now mints.now (actions_in region.now views.now) }
 {
-    let listed = evaluate_pre_actions(region, actions, before, before_places, programs, slot);
-    if !listed.accepts() {
-        return listed;
+    evaluate_pre_actions(region, views, moved.before, programs, slot)?;
+    if !verify_token_authorities_unchanged(moved.before, moved.after, moved.vault, mints) {
+        return Err(Refusal::SessionTokenAuthorityChanged);
     }
-    if !verify_token_authorities_unchanged(
-        before,
-        before_places,
-        after,
-        after_places,
-        vault,
-        mints,
-    ) {
-        return Answer::of(SESSION_TOKEN_AUTHORITY_CHANGED);
-    }
-    Answer::of(ACCEPTED)
+    Ok(())
 }
 
 // Steps 7 and 8: the SOL rules, then the token rules.
-fn limits_answer(region: &[u8], actions: &[u64], amounts: &[u64], slot: u64) -> Answer
-    ensures { result ≡ limits_from slot (charges_at region.now actions.now amounts.now) }
+fn limits_answer(region: &[u8], views: &[ActionView], amounts: &[u64], slot: u64) -> Answer
+    ensures { result ≡ limits_from slot (charges_at region.now views.now amounts.now) }
 {
-    let sol = class_answer(region, actions, amounts, Class::Sol, slot);
-    if !sol.accepts() {
-        return sol;
-    }
-    class_answer(region, actions, amounts, Class::Tokens, slot)
+    class_answer(region, views, amounts, Class::Sol, slot)?;
+    class_answer(region, views, amounts, Class::Tokens, slot)
 }
 
 // Steps 4 to 9, on what was cut; an empty region has no rules.
 fn judge_cut(
     region: &mut [u8],
-    actions: &[u64],
-    before: &[u8],
-    before_places: &[usize],
-    after: &[u8],
-    after_places: &[usize],
+    views: &[ActionView],
+    moved: &Outflow,
     programs: &[usize],
-    vault: &[u8],
     slot: u64,
-    sol: u64,
-    gross: u64,
 ) -> Answer
-    ensures { (result ≡ rules_from slot vault.now (records_in before.now before_places.now) (records_in after.now after_places.now) programs.now (charges_at region.old actions.now (sums_of (map (amount_from vault.now (records_in before.now before_places.now) (records_in after.now after_places.now) sol gross) (actions_in region.old actions.now))).list) (actions_in region.old actions.now)) × (region.new ≡ cond (accepts result) (settled_at slot actions.now (sums_of (map (amount_from vault.now (records_in before.now before_places.now) (records_in after.now after_places.now) sol gross) (actions_in region.old actions.now))).list region.old) region.old) }
+    ensures { (result ≡ rules_from slot moved.now.vault.now (table_records moved.now.before) (table_records moved.now.after) programs.now (charges_at region.old views.now (amounts_moved moved.now (actions_in region.old views.now))) (actions_in region.old views.now)) × (region.new ≡ cond (accepts result) (settled_at slot views.now (amounts_moved moved.now (actions_in region.old views.now)) region.old) region.old) }
 {
-    if how_many(actions) == 0 {
-        return Answer::of(ACCEPTED);
+    if views.is_empty() {
+        return Ok(());
     }
-    let mints = listed_mints(region, actions);
-    let checks = checks_answer(
-        region,
-        actions,
-        before,
-        before_places,
-        after,
-        after_places,
-        programs,
-        vault,
-        slot,
-        mints,
-    );
-    if !checks.accepts() {
-        return checks;
-    }
-    let amounts = amounts(
-        region,
-        actions,
-        before,
-        before_places,
-        after,
-        after_places,
-        vault,
-        sol,
-        gross,
-        mints,
-    );
-    let limits = limits_answer(region, actions, &amounts.list, slot);
-    if !limits.accepts() {
-        return limits;
-    }
-    settle(region, actions, &amounts.list, slot);
-    Answer::of(ACCEPTED)
+    let mints = listed_mints(region, views);
+    checks_answer(region, views, moved, programs, slot, &mints)?;
+    let amounts = moved.amounts(region, views, &mints);
+    limits_answer(region, views, &amounts.list, slot)?;
+    settle(region, views, &amounts.list, slot);
+    Ok(())
 }
 
-// The steps after the vault key and the table before. Each table is cut in a function of its own: two
-// calls of one function would share a place for what it answers, and each answer be copied once more.
-fn judge_after(
-    region: &mut [u8],
-    before: &[u8],
-    before_places: &[usize],
-    after: &[u8],
-    instructions: &[u8],
-    vault: &[u8],
-    slot: u64,
-    lamports_before: u64,
-    lamports_after: u64,
-    gross: u64,
-) -> Answer
-    requires { (length vault.now ≡ 32) × (accepts (answer_of (cut_table before.now)) ≡ true) × (records_in before.now before_places.now ≡ records_of (cut_table before.now)) }
-    ensures { (result ≡ judged region.old (call_of before.now after.now instructions.now vault.now slot lamports_before lamports_after gross)) × (region.new ≡ region_after region.old (call_of before.now after.now instructions.now vault.now slot lamports_before lamports_after gross)) }
+// The steps after the vault key and the table before, whose records these are.
+fn judge_after(region: &mut [u8], call: Call, before: &[RecordView]) -> Answer
+    requires { (length call.vault.now ≡ 32) × (cut_table call.before.now ≡ Ok (records_in call.before.now before.now)) }
+    ensures { (result ≡ judged region.old (call_lent call.entry)) × (region.new ≡ region_after region.old (call_lent call.entry)) }
 {
-    let after_cut = cut_places(after);
-    if !after_cut.answer.accepts() {
-        return after_cut.answer;
-    }
-    let read = parse_programs(instructions);
-    if !read.answer.accepts() {
-        return read.answer;
-    }
-    let parsed = parse_actions(region);
-    let actions = actions_in(&parsed.list, parsed.count);
-    let stored = stored_answer(region, parsed.answer, actions);
-    if !stored.accepts() {
-        return stored;
-    }
-    let sol = floored_difference(lamports_before, lamports_after);
+    let after = cut_places(call.after)?;
+    let programs = parse_programs(call.instructions)?;
+    let Ok(views) = parse_actions(region) else {
+        return Err(Refusal::BadRegion);
+    };
+    stored_answer(region, views.as_slice())?;
+    let moved = Outflow {
+        before: Table {
+            bytes: call.before,
+            records: before,
+        },
+        after: Table {
+            bytes: call.after,
+            records: after.as_slice(),
+        },
+        vault: call.vault,
+        sol: floored_difference(call.lamports_before, call.lamports_after),
+        gross: call.gross,
+    };
     judge_cut(
         region,
-        actions,
-        before,
-        before_places,
-        after,
-        places_in(&after_cut.list, after_cut.count),
-        programs_in(&read.list, read.count),
-        vault,
-        slot,
-        sol,
-        gross,
+        views.as_slice(),
+        &moved,
+        programs.as_slice(),
+        call.slot,
     )
 }
 
 // Judges a call: the first failure decides, and only an accepted call writes the region.
-pub fn judge(
-    region: &mut [u8],
-    before: &[u8],
-    after: &[u8],
-    instructions: &[u8],
-    vault: &[u8],
-    slot: u64,
-    lamports_before: u64,
-    lamports_after: u64,
-    gross: u64,
-) -> Answer
-    ensures { (result ≡ judged region.old (call_of before.now after.now instructions.now vault.now slot lamports_before lamports_after gross)) × (region.new ≡ region_after region.old (call_of before.now after.now instructions.now vault.now slot lamports_before lamports_after gross)) }
+pub fn judge(region: &mut [u8], call: Call) -> Answer
+    ensures { (result ≡ judged region.old (call_lent call.entry)) × (region.new ≡ region_after region.old (call_lent call.entry)) }
 {
-    if vault.len() != KEY_LENGTH {
-        return Answer::of(BAD_TABLE);
+    if call.vault.len() != KEY_LENGTH {
+        return Err(Refusal::BadTable);
     }
-    let before_cut = cut_places(before);
-    if !before_cut.answer.accepts() {
-        return before_cut.answer;
-    }
-    judge_after(
-        region,
-        before,
-        places_in(&before_cut.list, before_cut.count),
-        after,
-        instructions,
-        vault,
-        slot,
-        lamports_before,
-        lamports_after,
-        gross,
-    )
+    let before = cut_places(call.before)?;
+    judge_after(region, call, before.as_slice())
 }

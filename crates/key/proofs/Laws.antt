@@ -1,13 +1,18 @@
 -- The laws of comparing keys, and of the key of a part.
 -- Assumes nothing.
-use mathlib.Core.Path.{◌≡◌, refl, sym, ap₂, ◌∙◌}
+use mathlib.Core.Path.{◌≡◌, refl, sym, ap, ap₂, ◌∙◌}
 use mathlib.Core.Bool.{Bool, true, false, ◌&&◌, and-false, and-eq-true_iff}
 use mathlib.Core.List.{List, [], ◌∷◌}
 use Prim.Native.Nat.{ℕ, ◌≤◌}
 use native.Mathlib.Omega.{arith}
 use borrow.Author.Tests.{eq-eqb, ne_eqb, eqb-true, eqb-false}
 use lib.Dec.{eqb}
-use lib.ListN.{length, drop, drop_of_length-le}
+use lib.ListN.{length, replicate, drop, drop_of_length-le}
+use Rattle.std.specs.Array.{IsWholeChunk}
+use Rattle.std.specs.Result.{MatchResult, result_unwrap_or}
+use Rattle.std.specs.declared.result.Result.{Result}
+use Rattle.std.specs.declared.result.Result.TheVariants.{Ok, Err}
+use Rattle.key.specs.declared.Key.{Key}
 use Rattle.key.specs.Key.{same_bytes, same_key}
 use Rattle.key.specs.Views.{zero_key, key_from}
 
@@ -73,3 +78,11 @@ key_of_its_length part h = rw (eq-eqb _ _ h)
 pub key_of_another_length : (part : List ℕ) → (length part ≡ 32 → ⊥) → key_from part ≡ zero_key
 unfolding key_from
 key_of_another_length part h = rw (ne_eqb _ _ h)
+
+-- a part that converts to an array is the key of that array, and any other the key of zeros
+pub key_converted : {E : Type 0} (part : List ℕ) (bytes : Result (List ℕ) E) (it : List ℕ)
+    → MatchResult bytes (λ y. IsWholeChunk part y 32) (λ _. length part ≡ 32 → ⊥) → it ≡ result_unwrap_or bytes (replicate 32 0)
+    → ◌≡◌ {A = Key} (record { bytes = it }) (key_from part)
+unfolding zero_key
+key_converted part (Ok y) it chunk is = ap (λ (l : List ℕ). record { bytes = l }) (is ∙ chunk.same) ∙ sym (key_of_its_length part chunk.long)
+key_converted part (Err e) it other is = ap (λ (l : List ℕ). record { bytes = l }) is ∙ sym (key_of_another_length part other)

@@ -2,18 +2,21 @@
 -- comparison may go on by so many bytes at a time.
 -- Assumes nothing.
 use mathlib.Core.Path.{◌≡◌, refl, sym, ap, ◌∙◌}
-use mathlib.Core.Bool.{Bool, true, false, ◌&&◌, and_assoc, and-true}
+use mathlib.Core.Bool.{Bool, true, false, ◌&&◌, and_assoc}
 use mathlib.Core.List.{List, [], ◌∷◌, ◌++◌}
-use Prim.Native.Nat.{ℕ, ◌+◌, ◌≤◌}
+use Prim.Native.Nat.{ℕ, ◌+◌, ◌*◌, ◌<◌, ◌≤◌}
 use native.Mathlib.Omega.{arith}
 use borrow.Author.Tests.{eq-eqb, ne_eqb}
 use lib.Dec.{eqb}
-use lib.ListN.{length, take, drop, length-drop, take-append-drop}
+use lib.ListN.{length, get_or, take, drop, length-drop, take-append-drop}
 use lib.Seq.{drop-drop, length-take-le}
+use mathlib.Core.Logic.{◌≢◌}
+use Rattle.std.specs.Bool.{MatchBool}
+use Rattle.std.specs.List.{AllWithin, HoldsAt, range_with_len}
 use Rattle.number.specs.Number.{Bytes, number, number_at}
 use Rattle.number.proofs.Laws.{bytes_of-number, bytes_drop, bytes_take, number_there}
-use Rattle.key.specs.Key.{same_bytes}
-use Rattle.key.proofs.Laws.{same_bytes_eq, same_bytes_refl, same_bytes_end}
+use Rattle.key.specs.Key.{same_bytes, same_key}
+use Rattle.key.proofs.Laws.{key_compared, same_key_eq, same_bytes_eq, same_bytes_refl, same_bytes_end}
 
 same_number : (a b : List ℕ) → Bytes a → Bytes b → length a ≡ length b → same_bytes a b ≡ eqb (number a) (number b)
 same_number a b ha hb long = go (same_bytes a b) refl
@@ -49,16 +52,21 @@ module _ (width : ℕ) (a b : List ℕ) (ha : Bytes a) (hb : Bytes b) (i : ℕ) 
   word_step =
       rw (← (drop-drop width i a), ← (drop-drop width i b), ← (word_first (drop width (drop i a)) (drop width (drop i b))), take-append-drop width (drop i a), take-append-drop width (drop i b))
 
-  module _ (x y : ℕ) (ex : x ≡ number_at width a i) (ey : y ≡ number_at width b i) where
-    pub word_differs : (x ≡ y → ⊥) → same_bytes (drop i a) (drop i b) ≡ false
-    word_differs h = rw (← ex, ← ey, ne_eqb x y h) at word_step
-
-    pub word_same : x ≡ y → same_bytes (drop i a) (drop i b) ≡ same_bytes (drop (i + width) a) (drop (i + width) b)
-    word_same h = rw (← ex, ← ey, eq-eqb x y h) at word_step
-
--- the last eight bytes of both
-pub last_word : (a b : List ℕ) → Bytes a → Bytes b → (i : ℕ) → length a ≡ i + 8 → length b ≡ i + 8 → (x y : ℕ) → x ≡ number_at 8 a i → y ≡ number_at 8 b i
-    → same_bytes (drop i a) (drop i b) ≡ eqb x y
-last_word a b ha hb i ia ib x y ex ey =
-    word_step 8 a b ha hb i (omega arith) (omega arith)
-    ∙ rw (← ex, ← ey, same_bytes_end a b (i + 8) (omega arith) (omega arith), and-true (eqb x y))
+-- two keys are the same where their four words are
+pub words_compared : (a b : List ℕ) → Bytes a → Bytes b → length a ≡ 32 → length b ≡ 32 → (t : Bool)
+    → MatchBool t (AllWithin (λ i. number_at 8 a (8 * i) ≡ number_at 8 b (8 * i)) (range_with_len 0 4) 0 4) ((k : ℕ) × (k < 4) × HoldsAt (λ i. number_at 8 a (8 * i) ≢ number_at 8 b (8 * i)) (range_with_len 0 4) k)
+    → t ≡ same_key a b
+words_compared a b ha hb long_a long_b true each =
+    let first = next 0 (omega arith) (each 0 0 (omega arith) (omega arith)) in
+    let second = next 8 (omega arith) (each 1 0 (omega arith) (omega arith)) in
+    let third = next 16 (omega arith) (each 2 0 (omega arith) (omega arith)) in
+    let last = next 24 (omega arith) (each 3 0 (omega arith) (omega arith)) in
+    sym (key_compared a b long_b ∙ first ∙ second ∙ third ∙ last ∙ same_bytes_end a b 32 (omega arith) (omega arith))
+  where
+    next : (i : ℕ) → i + 8 ≤ 32 → number_at 8 a i ≡ number_at 8 b i → same_bytes (drop i a) (drop i b) ≡ same_bytes (drop (i + 8) a) (drop (i + 8) b)
+    next i here e = word_step 8 a b ha hb i (omega arith) (omega arith) ∙ rw (eq-eqb _ _ e) refl
+words_compared a b ha hb long_a long_b false (k, _, differs) = go (same_key a b) refl
+  where
+    go : (t : Bool) → same_key a b ≡ t → false ≡ t
+    go true e = absurd (differs 0 (ap (λ (l : List ℕ). number_at 8 l (8 * get_or (range_with_len 0 4) k 0)) (same_key_eq a b e)))
+    go false e = refl

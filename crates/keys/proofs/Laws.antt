@@ -1,14 +1,16 @@
--- The laws of lists of keys, key by key as the loops go.
+-- The laws of lists of keys: what a search in one finds, and one key more.
 -- Assumes nothing.
 use mathlib.Core.Path.{◌≡◌, refl, sym, ap, ◌∙◌}
 use mathlib.Core.Bool.{Bool, true, false, not, cond, ◌&&◌, ◌||◌, or-false, or_assoc}
 use mathlib.Core.List.{List, [], ◌∷◌, ◌++◌, map}
-use Prim.Native.Nat.{ℕ, zero, suc, ◌+◌, ◌<◌, ◌≤◌, min}
+use Prim.Native.Nat.{ℕ, zero, suc, ◌+◌, ◌<◌, ◌≤◌}
 use native.Mathlib.Numerals.{add-one}
 use native.Mathlib.Omega.{arith}
 use lib.Dec.{eqb, ltb}
-use lib.ListN.{length, get_or, take, drop, set, length-set, drop_of_length-le, length-take, length-map, get_or-map}
-use lib.Seq.{drop-cons, get_or-take, take-suc-set}
+use lib.ListN.{length, take, set, length-set, length-map}
+use lib.Seq.{take-suc-set}
+use Rattle.std.specs.List.{list_any, position, position_or_len}
+use Rattle.std.proofs.lemmas.List.{take-map}
 use Rattle.key.specs.declared.Key.{Key}
 use Rattle.key.specs.Key.{same_key}
 use Rattle.key.specs.Views.{key_from}
@@ -17,46 +19,27 @@ use Rattle.keys.specs.declared.Keys.{Keys}
 use Rattle.keys.specs.Views.{is_among, keys_in, with_key}
 use Rattle.keys.proofs.Filling.{with_repeat, with_new}
 
--- the keys of a list, one after the other
-pub keys_step : (l : Keys) (i : ℕ) (d : Key) → i < l.count → i < length l.list → drop i (keys_in l) ≡ (get_or l.list i d).bytes ∷ drop (suc i) (keys_in l)
-unfolding keys_in
-keys_step l i d hc hl =
-    let all = map (λ (k : Key). k.bytes) l.list in
-    let inside : i < length (take l.count all) = simp (length-take, length-map) (omega arith) in
-    rw (drop-cons (take l.count all) i d.bytes, get_or-take l.count all i d.bytes, get_or-map (λ (k : Key). k.bytes) l.list i d)
+-- ---- a search
 
-pub length_keys : (l : Keys) → length (keys_in l) ≡ min l.count (length l.list)
+pub counted_keys : (l : Keys) → map (λ (k : Key). k.bytes) (take l.count l.list) ≡ keys_in l
 unfolding keys_in
-length_keys l = simp (length-take, length-map)
+counted_keys l = sym (take-map (λ (k : Key). k.bytes) l.count l.list)
 
-pub key_at_lem : (l : Keys) (i : ℕ) (d : Key) → i < l.count → get_or (keys_in l) i d.bytes ≡ (get_or l.list i d).bytes
-unfolding keys_in
-key_at_lem l i d h =
-    let all = map (λ (k : Key). k.bytes) l.list in
-    get_or-take l.count all i d.bytes h ∙ get_or-map (λ (k : Key). k.bytes) l.list i d
-
-pub keys_end : (l : Keys) (i : ℕ) → min l.count (length l.list) ≤ i → drop i (keys_in l) ≡ []
-unfolding keys_in
-keys_end l i h =
-    let all = map (λ (k : Key). k.bytes) l.list in
-    let past : length (take l.count all) ≤ i = simp (length-take, length-map) h in
-    drop_of_length-le (take l.count all) past
-
-among_step : (key : List ℕ) (l : Keys) (i : ℕ) (d : Key) → i < l.count → i < length l.list
-    → is_among key (drop i (keys_in l)) ≡ (same_key (get_or l.list i d).bytes key || is_among key (drop (suc i) (keys_in l)))
+any_among : (key : List ℕ) (ks : List Key) → list_any (λ (k : Key). same_key k.bytes key) ks ≡ is_among key (map (λ (k : Key). k.bytes) ks)
 unfolding is_among
-among_step key l i d hc hl = ap (is_among key) (keys_step l i d hc hl)
+any_among key [] = refl
+any_among key (k ∷ ks) = ap (λ (t : Bool). same_key k.bytes key || t) (any_among key ks)
 
-module _ (key : List ℕ) (l : Keys) (i : ℕ) (d : Key) (hc : i < l.count) (hl : i < length l.list) where
-  pub among_found : same_key (get_or l.list i d).bytes key ≡ true → is_among key (drop i (keys_in l)) ≡ true
-  among_found e = rw e at (among_step key l i d hc hl)
+pub any_held : (l : Keys) (key : List ℕ) → list_any (λ (k : Key). same_key k.bytes key) (take l.count l.list) ≡ is_among key (keys_in l)
+any_held l key = any_among key (take l.count l.list) ∙ ap (is_among key) (counted_keys l)
 
-  pub among_passed : same_key (get_or l.list i d).bytes key ≡ false → is_among key (drop i (keys_in l)) ≡ is_among key (drop (suc i) (keys_in l))
-  among_passed e = rw e at (among_step key l i d hc hl)
+place_among : (key : List ℕ) (ks : List Key) → position_or_len (λ (k : Key). same_key k.bytes key) ks ≡ position_or_len (λ (k : List ℕ). same_key k key) (map (λ (k : Key). k.bytes) ks)
+place_among key [] = refl
+place_among key (k ∷ ks) = ap (λ (n : ℕ). cond (not (same_key k.bytes key)) (1 + n) 0) (place_among key ks)
 
-pub among_end : (key : List ℕ) (l : Keys) (i : ℕ) → min l.count (length l.list) ≤ i → is_among key (drop i (keys_in l)) ≡ false
-unfolding is_among
-among_end key l i h = ap (is_among key) (keys_end l i h)
+pub place_held : (l : Keys) (key : List ℕ) → position (λ (k : Key). same_key k.bytes key) (take l.count l.list) ≡ position (λ (k : List ℕ). same_key k key) (keys_in l)
+place_held l key =
+    rw (place_among key (take l.count l.list), ← (length-map (take l.count l.list) (λ (k : Key). k.bytes)), counted_keys l)
 
 -- ---- one key more
 

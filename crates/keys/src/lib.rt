@@ -1,7 +1,7 @@
 // Lists of at most sixteen keys without repeats: filling one, and searching it.
 #![tactic(auto)]
 
-ghost use Rattle.std.specs.Prelude.{◌≡◌, not, ◌&&◌, [], ◌+◌, min, ltb};
+ghost use Rattle.std.specs.Prelude.{◌≡◌, ◌≤◌, [], length, take, position};
 ghost use Rattle.key.specs.Key.{same_key};
 ghost use Rattle.keys.specs.Views.{most_keys, is_among, keys_in, keys_of, with_key};
 
@@ -9,42 +9,12 @@ use key::{KEY_LENGTH, Key};
 
 pub const MAX_KEYS: usize = 16;
 
-// At most sixteen keys, without repeats; past the count stand keys of zeros.
+// At most sixteen keys, without repeats. No `ArrayVec`: a count above sixteen is answered too, and what stands
+// past the count is not found (edits `seventeen_looked_at`, `found_among_none`).
 #[derive(Clone, Copy)]
 pub struct Keys {
     pub list: [Key; 16],
     pub count: usize,
-}
-
-// Whether a search among `count` keys goes on past `k`, which stands at `at`. Who owns a list
-// searches it on the spot: handed to a function, all of it is copied.
-pub fn goes_on(k: Key, key: &[u8], at: usize, count: usize) -> bool
-    ensures { result ≡ (ltb (at + 1) count && not (same_key k.bytes key.now)) }
-{
-    if count <= at {
-        return false;
-    }
-    if count - at <= 1 {
-        return false;
-    }
-    !k.is(key)
-}
-
-// Whether a search among `count` keys that ended at `k` found the key.
-pub fn is_found(k: Key, key: &[u8], count: usize) -> bool
-    ensures { result ≡ (ltb 0 count && same_key k.bytes key.now) }
-{
-    if count == 0 {
-        return false;
-    }
-    k.is(key)
-}
-
-// How many keys of a list there are to look at, whatever its count says.
-pub fn counted(count: usize) -> usize
-    ensures { result ≡ min count most_keys }
-{
-    if count < MAX_KEYS { count } else { MAX_KEYS }
 }
 
 impl Keys {
@@ -57,41 +27,35 @@ impl Keys {
         }
     }
 
-    pub fn holds(self, key: &[u8]) -> bool
-        ensures { result ≡ is_among key.now (keys_in self) }
+    // The keys that there are to look at, whatever the count says.
+    pub fn as_slice(&self) -> &[Key]
+        ensures counted { result.now ≡ take self.now.count self.now.list }
+        ensures few { length result.now ≤ most_keys }
     {
-        let count = self.count;
-        let mut i = 0;
-        while i < MAX_KEYS {
-            if count <= i {
-                return false;
-            }
-            let k = self.list[i];
-            if k.is(key) {
-                return true;
-            }
-            i += 1;
-        }
-        false
+        &self.list[..self.count.min(MAX_KEYS)]
     }
 
-    pub fn with(self, key: &[u8]) -> Self
-        ensures { result ≡ with_key self key.now }
+    // Where a key stands.
+    pub fn position(&self, key: &[u8]) -> Option<usize>
+        ensures { result ≡ position (λ k. same_key k key.now) (keys_in self.now) }
     {
-        let count = self.count;
-        if MAX_KEYS <= count {
-            return self;
+        self.as_slice().iter().position(|k| k.is(key))
+    }
+
+    pub fn holds(&self, key: &[u8]) -> bool
+        ensures { result ≡ is_among key.now (keys_in self.now) }
+    {
+        self.as_slice().iter().any(|k| k.is(key))
+    }
+
+    // Puts a key in, unless the list is full, the key is none, or it is there.
+    pub fn push(&mut self, key: &[u8])
+        ensures { self.new ≡ with_key self.old key.now }
+    {
+        if MAX_KEYS <= self.count || key.len() != KEY_LENGTH || self.holds(key) {
+            return;
         }
-        if key.len() != KEY_LENGTH {
-            return self;
-        }
-        if self.holds(key) {
-            return self;
-        }
-        let mut more = self;
-        let k = key::key_of(key);
-        more.list[count] = k;
-        more.count = count + 1;
-        more
+        self.list[self.count] = key::key_of(key);
+        self.count += 1;
     }
 }

@@ -4,28 +4,14 @@ use mathlib.Core.Path.{◌≡◌}
 use mathlib.Core.Bool.{true, false}
 use mathlib.Core.List.{List}
 use Prim.Native.Nat.{ℕ, ◌*◌, ◌/◌, ◌<◌, ◌≤◌}
-use native.Mathlib.Omega.{arith}
-use borrow.Author.Tests.{lt-ltb, le-ltb, ne_eqb}
+use borrow.Author.Tests.{lt-ltb, le-ltb}
 use lib.Dec.{ltb}
-use Rattle.answer.specs.Numbers.{answer, accepted}
+use Rattle.answer.specs.Refusable.{Ok}
 use Rattle.number.specs.Number.{capped_sum, floored_difference}
 use Rattle.action.specs.Action.{Action, expired}
 use Rattle.action.specs.Fields.{is_recurring, amounts_of, remaining, limit, spent, window, last_reset}
 use Rattle.change.specs.declared.Change.TheVariants.{Nothing, Remaining, Spent}
 use Rattle.limit.specs.Limit.{Charge, refusal_of, window_over, base, above, breaks, rule_answer, spent_change, is_limit, live_change, change_of}
-
--- a code past the table has no rule
-pub no_rule_past : (kind : ℕ) → 12 ≤ kind → refusal_of kind ≡ 0
-unfolding refusal_of
-no_rule_past kind h =
-    rw (
-      ne_eqb kind 1 (λ e. omega arith),
-      ne_eqb kind 2 (λ e. omega arith),
-      ne_eqb kind 3 (λ e. omega arith),
-      ne_eqb kind 4 (λ e. omega arith),
-      ne_eqb kind 5 (λ e. omega arith),
-      ne_eqb kind 6 (λ e. omega arith),
-    )
 
 module _ (slot amount : ℕ) (a : Action) (amounts : List ℕ) (e : amounts ≡ amounts_of a) where
   pub above-recurring : is_recurring a.kind ≡ true → above slot amount a ≡ ltb (limit amounts) (capped_sum (base slot amounts) amount)
@@ -64,11 +50,11 @@ module _ (slot amount : ℕ) (a : Action) where
     breaks-above x = rw (lt-ltb _ _ some, x)
 
 module _ (slot : ℕ) (c : Charge) where
-  pub rule_broken : breaks slot c.amount c.act ≡ true → rule_answer slot c ≡ answer (refusal_of c.act.kind)
+  pub rule_broken : breaks slot c.amount c.act ≡ true → rule_answer slot c ≡ refusal_of c.act.kind
   unfolding rule_answer
   rule_broken b = rw b
 
-  pub rule_kept : breaks slot c.amount c.act ≡ false → rule_answer slot c ≡ answer accepted
+  pub rule_kept : breaks slot c.amount c.act ≡ false → rule_answer slot c ≡ Ok tt
   unfolding rule_answer
   rule_kept b = rw b
 

@@ -1,8 +1,9 @@
 -- The rule of one limit, for SOL and tokens alike: an amount against an action's amounts at a slot, and what is written when it is kept.
 -- Assumes nothing.
 use Rattle.std.specs.Prelude.{ℕ, ◌*◌, ◌/◌, Bool, not, cond, ◌&&◌, ◌||◌, List, eqb, ltb}
-use Rattle.answer.specs.declared.Answer.{Answer}
-use Rattle.answer.specs.Numbers.{accepted, refuse_if, action_sol_max_per_tx_exceeded, action_sol_limit_exceeded, action_sol_recurring_limit_exceeded, action_token_max_per_tx_exceeded, action_token_limit_exceeded, action_token_recurring_limit_exceeded}
+use Rattle.answer.specs.declared.Refusal.TheVariants.{ActionSolMaxPerTxExceeded, ActionSolLimitExceeded, ActionSolRecurringLimitExceeded, ActionTokenMaxPerTxExceeded, ActionTokenLimitExceeded, ActionTokenRecurringLimitExceeded}
+use Rattle.answer.specs.Numbers.{Answer}
+use Rattle.answer.specs.Refusable.{Ok, Err}
 use Rattle.number.specs.Number.{capped_sum, floored_difference}
 use Rattle.action.specs.Action.{Action, expired, sol_limit, sol_recurring_limit, sol_max_per_tx, token_limit, token_recurring_limit, token_max_per_tx}
 use Rattle.action.specs.Fields.{is_recurring, amounts_of, remaining, limit, spent, window, last_reset}
@@ -16,14 +17,14 @@ pub record Charge : Type 0 where
   pub amount : ℕ
 
 -- the refusal of a type's rule; a list has none
-unfoldable pub refusal_of : ℕ → ℕ
+unfoldable pub refusal_of : ℕ → Answer
 refusal_of kind =
-    cond (eqb kind sol_limit) action_sol_limit_exceeded
-    (cond (eqb kind sol_recurring_limit) action_sol_recurring_limit_exceeded
-    (cond (eqb kind sol_max_per_tx) action_sol_max_per_tx_exceeded
-    (cond (eqb kind token_limit) action_token_limit_exceeded
-    (cond (eqb kind token_recurring_limit) action_token_recurring_limit_exceeded
-    (cond (eqb kind token_max_per_tx) action_token_max_per_tx_exceeded accepted)))))
+    cond (eqb kind sol_limit) (Err ActionSolLimitExceeded)
+    (cond (eqb kind sol_recurring_limit) (Err ActionSolRecurringLimitExceeded)
+    (cond (eqb kind sol_max_per_tx) (Err ActionSolMaxPerTxExceeded)
+    (cond (eqb kind token_limit) (Err ActionTokenLimitExceeded)
+    (cond (eqb kind token_recurring_limit) (Err ActionTokenRecurringLimitExceeded)
+    (cond (eqb kind token_max_per_tx) (Err ActionTokenMaxPerTxExceeded) (Ok tt))))))
 
 -- the window is over: more slots have passed since the last reset than it has
 unfoldable pub window_over : ℕ → List ℕ → Bool
@@ -48,7 +49,7 @@ breaks slot amount a = ltb 0 amount && (expired a.expires slot || above slot amo
 -- what the rule of one action answers
 unfoldable pub rule_answer : ℕ → Charge → Answer
 unfolding breaks refusal_of
-rule_answer slot c = refuse_if (breaks slot c.amount c.act) (refusal_of c.act.kind)
+rule_answer slot c = cond (breaks slot c.amount c.act) (refusal_of c.act.kind) (Ok tt)
 
 -- what is written of a window: what is spent and, where it was over, the slot that the new one began at
 unfoldable pub spent_change : ℕ → ℕ → List ℕ → Change

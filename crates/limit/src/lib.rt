@@ -9,19 +9,28 @@ ghost use Rattle.limit.specs.Limit.{refusal_of, window_over, base, above as is_a
 use action::fields::{
     amounts_of, is_expired, is_recurring, last_reset, limit, remaining, spent, window,
 };
-use action::{ActionView, SOL_LIMIT, TOKEN_LIMIT};
-use answer::{ACCEPTED, Answer};
+use action::{
+    ActionView, SOL_LIMIT, SOL_MAX_PER_TX, SOL_RECURRING_LIMIT, TOKEN_LIMIT, TOKEN_MAX_PER_TX,
+    TOKEN_RECURRING_LIMIT,
+};
+use answer::{Answer, Refusal};
 use change::Change;
 use number::{capped_sum, floored_difference};
 
-// The refusal of each type's rule by its code, 0 where it has none.
-const REFUSALS: [u32; 12] = [0, 7, 8, 6, 10, 11, 9, 0, 0, 0, 0, 0];
-
-fn refusal_of(kind: u8) -> u32
+// The refusal of a type's rule; a list has none.
+#[tactic(auto, unfolding(crate::specs::Limit::refusal_of))]
+fn refusal_of(kind: u8) -> Answer
     ensures { result ≡ refusal_of kind }
 {
-    let i = kind as usize;
-    if i < 12 { REFUSALS[i] } else { 0 }
+    match kind {
+        SOL_LIMIT => Err(Refusal::ActionSolLimitExceeded),
+        SOL_RECURRING_LIMIT => Err(Refusal::ActionSolRecurringLimitExceeded),
+        SOL_MAX_PER_TX => Err(Refusal::ActionSolMaxPerTxExceeded),
+        TOKEN_LIMIT => Err(Refusal::ActionTokenLimitExceeded),
+        TOKEN_RECURRING_LIMIT => Err(Refusal::ActionTokenRecurringLimitExceeded),
+        TOKEN_MAX_PER_TX => Err(Refusal::ActionTokenMaxPerTxExceeded),
+        _ => Ok(()),
+    }
 }
 
 fn window_over(slot: u64, amounts: &[u8]) -> bool
@@ -67,9 +76,9 @@ pub fn rule_answer(region: &[u8], view: ActionView, slot: u64, amount: u64) -> A
     ensures { result ≡ rule_answer slot (record { act = action_at region.now view; amount = amount }) }
 {
     if breaks(region, view, slot, amount) {
-        return Answer::of(refusal_of(view.kind));
+        return refusal_of(view.kind);
     }
-    Answer::of(ACCEPTED)
+    Ok(())
 }
 
 // The slot that the window which holds `slot` begins at.
@@ -91,13 +100,11 @@ fn spent_change(slot: u64, amount: u64, amounts: &[u8]) -> Change
     Change::Spent(capped_sum(spent(amounts), amount), last_reset(amounts))
 }
 
+#[tactic(auto, unfolding(crate::specs::Limit::is_limit))]
 fn is_limit(kind: u8) -> bool
     ensures { result ≡ is_limit kind }
 {
-    if kind == SOL_LIMIT {
-        return true;
-    }
-    kind == TOKEN_LIMIT
+    matches!(kind, SOL_LIMIT | TOKEN_LIMIT)
 }
 
 fn live_change(region: &[u8], view: ActionView, slot: u64, amount: u64) -> Change

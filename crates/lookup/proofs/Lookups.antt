@@ -1,27 +1,28 @@
 -- Laws of indexes: the key at one, whether all are below a count, and what resolving answers.
 -- Assumes nothing.
-use mathlib.Core.Path.{◌≡◌, ap}
-use mathlib.Core.Bool.{Bool, true, false, not, ◌&&◌, and-false}
+use mathlib.Core.Path.{◌≡◌, ap, ◌∙◌}
+use mathlib.Core.Bool.{Bool, true, not}
 use mathlib.Core.List.{List, [], ◌∷◌, map}
-use Prim.Native.Nat.{ℕ, zero, suc, ◌+◌, ◌*◌, ◌/◌, ◌<◌, ◌≤◌}
+use Prim.Native.Nat.{ℕ, zero, suc, ◌+◌, ◌<◌, ◌≤◌}
 use native.Mathlib.Omega.{arith}
-use borrow.Author.Tests.{leb-true, lt-ltb, le-ltb}
-use lib.ListN.{length, get_or, take, drop, length-map, drop_of_length-le, get_or-eq_default}
+use borrow.Author.Tests.{leb-true}
+use lib.ListN.{length, get_or, drop, length-map, get_or-map, get_or-eq_default}
 use lib.Seq.{drop-cons}
-use lib.Dec.{ltb}
-use Rattle.answer.specs.Numbers.{accepts, refuse_if, invalid_instruction_data}
+use Rattle.arrayvec.specs.ArrayVec.{ArrayVec}
+use Rattle.answer.specs.declared.Refusal.{Refusal}
+use Rattle.answer.specs.declared.Refusal.TheVariants.{InvalidInstructionData}
+use Rattle.answer.specs.Numbers.{refuse_if}
+use Rattle.answer.specs.Refusable.{Ok, Err}
 use Rattle.compact.specs.declared.Range.{Range}
 use Rattle.compact.specs.declared.Entry.{Entry}
-use Rattle.compact.specs.Entries.{within, range_bytes}
+use Rattle.compact.specs.Entries.{within}
 use Rattle.account.specs.declared.RecordView.{RecordView}
 use Rattle.account.specs.Record.{Record}
-use Rattle.account.specs.Views.{record_at, record_views, records_in}
-use Rattle.account.proofs.Views.{records_step}
-use Rattle.table.specs.declared.Places.{Places}
+use Rattle.account.specs.Views.{record_at, records_in}
 use Rattle.table.specs.Table.{cut_table}
 use Rattle.table.specs.Views.{places_of}
-use Rattle.table.proofs.Views.{records_of_places, table_malformed, table_sound}
-use Rattle.lookup.specs.Indexes.{all_below, resolvable, resolving, key_among, key_at}
+use Rattle.table.proofs.Views.{table_malformed, table_sound}
+use Rattle.lookup.specs.Indexes.{resolvable, resolving, key_among, key_at}
 
 -- ---- the key at an index
 
@@ -40,32 +41,21 @@ key_of_rest [] (suc i) r rest e = absurd (let z : ◌≡◌ {A = ℕ} 0 1 = cc i
 key_of_rest (a ∷ l) zero r rest e = ap (λ (x : Record). x.key) (let same : a ≡ r = cc in same)
 key_of_rest (a ∷ l) (suc i) r rest e = key_of_rest l i r rest e
 
-pub key_there : (s row : List ℕ) (i : ℕ) (d : RecordView) → i < length row / 2
-    → key_among (records_in s row) i ≡ (record_at s (get_or (record_views row) i d)).key
-key_there s row i d h = key_of_rest (records_in s row) i _ _ (records_step s row i d h)
+pub key_there : (s : List ℕ) (views : List RecordView) (i : ℕ) (d : RecordView) → i < length views
+    → key_among (records_in s views) i ≡ (record_at s (get_or views i d)).key
+unfolding records_in
+key_there s views i d h =
+    let inside : i < length (map (record_at s) views) = simp length-map h in
+    key_of_rest (map (record_at s) views) i (record_at s (get_or views i d)) (drop (suc i) (map (record_at s) views))
+    (drop-cons (map (record_at s) views) i (record_at s d) inside ∙ rw (get_or-map (record_at s) views i d))
 
-pub key_of_table : (s : List ℕ) (cut : Places) (i : ℕ) → cut ≡ places_of (cut_table s)
-    → key_among (records_in s (take (2 * cut.count) cut.list)) i ≡ key_at s i
+pub key_of_table : (s : List ℕ) (views : ArrayVec RecordView) (i : ℕ) → places_of (cut_table s) ≡ Ok views → key_among (records_in s views.items) i ≡ key_at s i
 unfolding key_at
-key_of_table s cut i whole = rw (records_of_places s cut whole)
+key_of_table s views i whole = rw (table_sound s views whole).0
 
--- ---- indexes below a count
-
-module _ (count : ℕ) (is : List ℕ) (i : ℕ) where
-  module _ (inside : i < length is) where
-    below_step : all_below count (drop i is) ≡ (ltb (get_or is i 0) count && all_below count (drop (suc i) is))
-    unfolding all_below
-    below_step = rw (drop-cons is i 0)
-
-    pub below_found : count ≤ get_or is i 0 → all_below count (drop i is) ≡ false
-    below_found h = rw (le-ltb _ _ h) at below_step
-
-    pub below_passed : get_or is i 0 < count → all_below count (drop i is) ≡ all_below count (drop (suc i) is)
-    below_passed h = rw (lt-ltb _ _ h) at below_step
-
-  pub below_end : length is ≤ i → all_below count (drop i is) ≡ true
-  unfolding all_below
-  below_end h = rw (drop_of_length-le is h)
+pub key_of_none : (s : List ℕ) (i : ℕ) (r : Refusal) → places_of (cut_table s) ≡ Err r → key_at s i ≡ []
+unfolding key_at
+key_of_none s i r refused = rw (table_malformed s r refused) (key_past [] i (omega arith))
 
 -- ---- resolving
 
@@ -73,34 +63,15 @@ pub within_ends : (source : List ℕ) (r : Range) → within source r ≡ true �
 unfolding within
 within_ends source r h = leb-true _ _ h
 
--- what each test of an entry decides
-module _ (count : ℕ) (source : List ℕ) (e : Entry) where
-  pub accounts_past_the_end : within source e.accounts ≡ false → resolvable count source e ≡ false
-  unfolding resolvable
-  accounts_past_the_end h = rw h
-
-  pub payload_past_the_end : within source e.payload ≡ false → resolvable count source e ≡ false
-  unfolding resolvable
-  payload_past_the_end h = rw (h, and-false)
-
-  pub program_past_the_count : count ≤ e.program → resolvable count source e ≡ false
-  unfolding resolvable
-  program_past_the_count h = rw (le-ltb _ _ h, and-false)
-
-  pub accounts_decide : within source e.accounts ≡ true → within source e.payload ≡ true → e.program < count
-      → resolvable count source e ≡ all_below count (range_bytes source e.accounts)
-  unfolding resolvable
-  accounts_decide ha hp h = rw (ha, hp, lt-ltb _ _ h)
-
-module _ (s : List ℕ) (e : Entry) (source : List ℕ) (cut : Places) (whole : cut ≡ places_of (cut_table s)) where
-  pub resolve_malformed : accepts cut.answer ≡ false → resolving s e source ≡ cut.answer
+module _ (s : List ℕ) (e : Entry) (source : List ℕ) where
+  pub resolve_malformed : (r : Refusal) → places_of (cut_table s) ≡ Err r → resolving s e source ≡ Err r
   unfolding resolving
-  resolve_malformed h = rw (table_malformed s cut whole h, resolving)
+  resolve_malformed r h = rw (table_malformed s r h, resolving)
 
   -- past a sound table the test of the entry decides
-  pub resolve_sound : (fits : Bool) → accepts cut.answer ≡ true → resolvable cut.count source e ≡ fits
-      → resolving s e source ≡ refuse_if (not fits) invalid_instruction_data
+  pub resolve_sound : (views : ArrayVec RecordView) → places_of (cut_table s) ≡ Ok views → (fits : Bool) → resolvable (length views.items) source e ≡ fits
+      → resolving s e source ≡ refuse_if (not fits) InvalidInstructionData
   unfolding resolving
-  resolve_sound fits h decided =
-      let (l, is-given, counted) = table_sound s cut whole h in
+  resolve_sound views h fits decided =
+      let (is-given, counted) = table_sound s views h in
       rw (is-given, resolving, counted, decided)

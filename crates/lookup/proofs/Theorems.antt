@@ -11,9 +11,9 @@ use borrow.Author.Tests.{ltb-true, ltb-false}
 use lib.Dec.{ltb}
 use lib.ListN.{length, get_or}
 use lib.Seq.{length-take-le}
-use Rattle.answer.specs.declared.Answer.{Answer}
-use Rattle.answer.specs.Numbers.{answer, accepted, refuse_if, invalid_instruction_data}
-use Rattle.answer.specs.Refusable.{Refusable, given, refused}
+use Rattle.answer.specs.declared.Refusal.TheVariants.{InvalidInstructionData}
+use Rattle.answer.specs.Numbers.{Answer, number_of, refuse_if}
+use Rattle.answer.specs.Refusable.{Refusable, Ok, Err}
 use Rattle.number.specs.Number.{number}
 use Rattle.part.proofs.Laws.{length_part_there}
 use Rattle.compact.specs.declared.Entry.{Entry}
@@ -26,7 +26,7 @@ use Rattle.lookup.proofs.Lookups.{key_past, within_ends}
 
 -- ---- lookup
 
-key_lengths : (n : ℕ) (s : List ℕ) (l : List Record) (i : ℕ) → cut_records n s ≡ given l → i < length l → length (key_among l i) ≡ 32
+key_lengths : (n : ℕ) (s : List ℕ) (l : List Record) (i : ℕ) → cut_records n s ≡ Ok l → i < length l → length (key_among l i) ≡ 32
 unfolding key_among
 key_lengths zero s l i e h = let (_, none) = none_given s l e in absurd (not-suc-le-zero (rw none at h))
 key_lengths (suc n) s l zero e h =
@@ -49,8 +49,8 @@ a_lookup_gives_32_bytes_exactly_below_the_count s i = (only (ltb i (length (reco
         absurd (omega arith)
 
     there : (x : Refusable (List Record)) → cut_table s ≡ x → i < length (records_of x) → length (key_among (records_of x) i) ≡ 32
-    there (given l) e h = key_lengths (number _) _ l i (table_given s l e).records_given h
-    there (refused r) e h = absurd (not-suc-le-zero h)
+    there (Ok l) e h = key_lengths (number _) _ l i (table_given s l e).records_given h
+    there (Err r) e h = absurd (not-suc-le-zero h)
 
 -- ---- resolving
 
@@ -60,17 +60,17 @@ below_each count [] i e h = absurd (not-suc-le-zero h)
 below_each count (a ∷ is) zero e h = ltb-true _ _ ((and-eq-true_iff (ltb a count) _).0 e).0
 below_each count (a ∷ is) (suc i) e h = below_each count is i ((and-eq-true_iff (ltb a count) _).0 e).1 (le_of_suc-le-suc h)
 
-resolved_entry : (s : List ℕ) (e : Entry) (source : List ℕ) → resolving s e source ≡ answer accepted
+resolved_entry : (s : List ℕ) (e : Entry) (source : List ℕ) → resolving s e source ≡ Ok tt
     → resolvable (length (records_of (cut_table s))) source e ≡ true
 unfolding resolving
 resolved_entry s e source h = go (cut_table s) refl (resolvable _ source e) refl h
   where
     go : (x : Refusable (List Record)) → cut_table s ≡ x → (t : Bool) → resolvable (length (records_of x)) source e ≡ t
-        → elim x [ given l ↦ refuse_if (not (resolvable (length l) source e)) invalid_instruction_data | refused r ↦ r ] ≡ answer accepted
+        → ◌≡◌ {A = Answer} (elim x [ Ok l ↦ refuse_if (not (resolvable (length l) source e)) InvalidInstructionData | Err r ↦ Err r ]) (Ok tt)
         → resolvable (length (records_of x)) source e ≡ true
-    go (given l) c true d h = d
-    go (given l) c false d h = absurd (let z : ◌≡◌ {A = ℕ} 3 0 = ap (λ (a : Answer). a.number) (rw d at h) in omega arith)
-    go (refused r) c t d h = absurd (let z : ◌≡◌ {A = ℕ} 13 0 = ap (λ (a : Answer). a.number) (rw (table_refusal s r c) at h) in omega arith)
+    go (Ok l) c true d h = d
+    go (Ok l) c false d h = absurd (let z : ◌≡◌ {A = ℕ} 3 0 = ap number_of (rw d at h) in omega arith)
+    go (Err r) c t d h = absurd (let z : ◌≡◌ {A = ℕ} 13 0 = ap number_of (rw (table_refusal s r c) at h) in omega arith)
 
 -- what an entry that resolves names: parts of its source, and records that a lookup finds
 pub record NamesWhatIsThere (s : List ℕ) (e : Entry) (source : List ℕ) : Type 0 where
@@ -79,7 +79,7 @@ pub record NamesWhatIsThere (s : List ℕ) (e : Entry) (source : List ℕ) : Typ
   pub program : length (key_at s e.program) ≡ 32
   pub indexes : (i : ℕ) → i < e.accounts.len → length (key_at s (get_or (range_bytes source e.accounts) i 0)) ≡ 32
 
-pub an_entry_that_resolves_names_what_is_there : (s : List ℕ) (e : Entry) (source : List ℕ) → resolving s e source ≡ answer accepted
+pub an_entry_that_resolves_names_what_is_there : (s : List ℕ) (e : Entry) (source : List ℕ) → resolving s e source ≡ Ok tt
     → NamesWhatIsThere s e source
 unfolding resolvable
 an_entry_that_resolves_names_what_is_there s e source h =

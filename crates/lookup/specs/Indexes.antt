@@ -1,9 +1,9 @@
 -- Indexes into a table: resolving those of an instruction, and the key at one.
 -- Assumes nothing.
 use Rattle.std.specs.Prelude.{ℕ, Bool, true, not, ◌&&◌, List, [], ◌∷◌, map, ltb, length, get_or}
-use Rattle.answer.specs.declared.Answer.{Answer}
-use Rattle.answer.specs.Numbers.{refuse_if, invalid_instruction_data}
-use Rattle.answer.specs.Refusable.{given, refused}
+use Rattle.answer.specs.declared.Refusal.TheVariants.{InvalidInstructionData}
+use Rattle.answer.specs.Numbers.{Answer, refuse_if}
+use Rattle.answer.specs.Refusable.{Ok, Err}
 use Rattle.compact.specs.declared.Entry.{Entry}
 use Rattle.compact.specs.Entries.{within, range_bytes}
 use Rattle.account.specs.Record.{Record}
@@ -24,8 +24,8 @@ unfoldable pub resolving : List ℕ → Entry → List ℕ → Answer
 unfolding cut_table resolvable
 resolving table e source =
     elim (cut_table table) [
-      | given l ↦ refuse_if (not (resolvable (length l) source e)) invalid_instruction_data
-      | refused r ↦ r
+      | Ok l ↦ refuse_if (not (resolvable (length l) source e)) InvalidInstructionData
+      | Err r ↦ Err r
     ]
 
 -- the key of the record at an index, nothing past the last

@@ -1,7 +1,6 @@
--- The laws of little-endian numbers, each over the width: a number is its halves, a number written is a run of stores, and what is
--- written is read back.
+-- The laws of little-endian numbers, each over the width: they are the library's numbers of bytes, and what is written is read back.
 -- Assumes nothing.
-use mathlib.Core.Path.{◌≡◌, refl, sym, ap, subst, ◌∙◌}
+use mathlib.Core.Path.{◌≡◌, refl, sym, ap, ap₂, subst, ◌∙◌}
 use mathlib.Core.Bool.{Bool, true, false, cond}
 use mathlib.Core.List.{List, [], ◌∷◌, ◌++◌, append_assoc}
 use Prim.Native.Nat.{ℕ, zero, suc, ◌+◌, ◌-◌, ◌*◌, ◌/◌, ◌%◌, ◌^◌, ◌<◌, ◌≤◌}
@@ -9,8 +8,17 @@ use native.Mathlib.Nat.{pow-suc}
 use native.Mathlib.Omega.{arith}
 use borrow.Author.Tests.{le-leb, lt-leb, leb-true}
 use lib.Dec.{leb}
-use lib.ListN.{set, length, get_or, take, drop, length-append, length-drop, length-take, take-append-drop}
-use lib.Seq.{get_or-drop, take-add, take_at, take-append-le, drop_at, drop-append-le, drop-drop, drop-cons, length-take-le, sets, sets-eq}
+use lib.ListN.{length, take, drop, length-append, length-drop, length-take, take-append-drop}
+use lib.Seq.{get_or-drop, take-suc, take_all, take_at, take-append-le, drop_at, drop-append-le, drop-drop, length-take-le}
+use Rattle.std.specs.List.{slice_index}
+use Rattle.std.specs.Borrow.{Bor}
+use Rattle.std.specs.Option.{MatchOption}
+use Rattle.std.specs.declared.option.Option.{Option}
+use Rattle.std.specs.declared.option.Option.TheVariants.{None, Some}
+use borrow.Rule.Slice.PartMut.{put_mid}
+use Rattle.std.proofs.lemmas.Slice.{put_mid-paste}
+use Rattle.std.proofs.Math.Nat.{div-div-eq-div-mul}
+use Rattle.std.specs.Int.{byte_worth, byte_at, bytes_low_first, sum_through}
 use Rattle.number.specs.Number.{number, bytes_of, number_at, with_number_at, Bytes}
 
 pub length-bytes_of : (width n : ℕ) → length (bytes_of width n) ≡ width
@@ -23,18 +31,6 @@ unfolding number
 number_append [] ys = omega arith
 number_append (x ∷ xs) ys = rw (number_append xs ys, pow-suc) (omega arith)
 
--- a number of a + b bytes is that of its first a bytes and, 256 ^ a times, that of its last b
-pub halves : (a b : ℕ) (s : List ℕ) (at : ℕ) → at + a ≤ length s
-    → number (take (a + b) (drop at s)) ≡ number (take a (drop at s)) + 256 ^ a * number (take b (drop (at + a) s))
-halves a b s at h =
-    let fits : a ≤ length (drop at s) = simp length-drop (omega arith) in
-    rw (take-add a b (drop at s), number_append, length-take-le a (drop at s), drop-drop a at s)
-
--- a number of one byte is that byte
-pub one_byte : (s : List ℕ) (at : ℕ) → at < length s → number (take 1 (drop at s)) ≡ get_or s at 0
-unfolding number
-one_byte s at h = rw (drop-cons s at 0) (omega arith)
-
 pub number_there : (width : ℕ) (s : List ℕ) (at : ℕ) → at + width ≤ length s → number_at width s at ≡ number (take width (drop at s))
 unfolding number_at
 number_there width s at h = rw (le-leb _ _ h)
@@ -43,29 +39,55 @@ pub number_not_there : (width : ℕ) (s : List ℕ) (at : ℕ) → length s < at
 unfolding number_at
 number_not_there width s at h = rw (lt-leb _ _ h)
 
--- where it fits, a number is written by a store for each of its bytes
-pub written : (width : ℕ) (s : List ℕ) (at n : ℕ) → at + width ≤ length s → with_number_at width s at n ≡ sets s at (bytes_of width n)
+-- where it fits, a number is written over what was there
+pub written : (width : ℕ) (s : List ℕ) (at n : ℕ) → at + width ≤ length s → with_number_at width s at n ≡ take at s ++ bytes_of width n ++ drop (at + width) s
 unfolding with_number_at
-written width s at n h =
-    let fits : at + length (bytes_of width n) ≤ length s = simp length-bytes_of (omega arith) in
-    rw (le-leb _ _ h, sets-eq (bytes_of width n) s at, length-bytes_of)
-
--- one store after the other
-module _ (s : List ℕ) (at i n : ℕ) where
-  pub store_next : i < 8 → sets (set s (at + i) (n % 256)) (at + (i + 1)) (bytes_of (8 - (i + 1)) (n / 256)) ≡ sets s (at + i) (bytes_of (8 - i) n)
-  unfolding bytes_of
-  store_next h =
-      let left : 8 - i ≡ suc (8 - (i + 1)) = omega arith in
-      let next : at + (i + 1) ≡ suc (at + i) = omega arith in
-      rw (left, next)
-
-  pub store_end : 8 ≤ i → sets s (at + i) (bytes_of (8 - i) n) ≡ s
-  unfolding bytes_of
-  store_end h = let none : 8 - i ≡ 0 = omega arith in rw none
+written width s at n h = rw (le-leb _ _ h)
 
 pub not_written : (width : ℕ) (s : List ℕ) (at n : ℕ) → length s < at + width → with_number_at width s at n ≡ s
 unfolding with_number_at
 not_written width s at n h = rw (lt-leb _ _ h)
+
+-- ---- the library's numbers of bytes, and its bytes of a number
+
+-- the sum that the library makes of the first bytes is their number
+number_of_le_bytes : (k : ℕ) (bs : List ℕ) → k < length bs → sum_through (λ i. byte_worth i (slice_index bs i)) k ≡ number (take (suc k) bs)
+unfolding number
+number_of_le_bytes zero [] h = omega arith
+number_of_le_bytes zero (b ∷ bs) h = omega arith
+number_of_le_bytes (suc k) bs h =
+    rw (take-suc bs (suc k) 0 h, number_append, length-take-le (suc k) bs (omega arith), ← (number_of_le_bytes k bs (omega arith))) (omega arith)
+
+-- what is read is the number of the bytes that are there, and else 0
+pub read : (width n : ℕ) (s : List ℕ) (at : ℕ) (there : Option (Bor (List ℕ)))
+    → MatchOption there (length s < at + suc width) (λ it. (at + suc width ≤ length s) × (it.now ≡ take (suc width) (drop at s)))
+    → MatchOption there (n ≡ 0) (λ it. n ≡ sum_through (λ i. byte_worth i (slice_index it.now i)) width)
+    → n ≡ number_at (suc width) s at
+read width n s at None short none = none ∙ sym (number_not_there (suc width) s at short)
+read width n s at (Some it) (fits, same) is =
+    let part = take (suc width) (drop at s) in
+    let long : length part ≡ suc width = length-take-le (suc width) (drop at s) (simp length-drop (omega arith)) in
+    is ∙ rw (same, number_of_le_bytes width part (rw long (omega arith)), number_there (suc width) s at fits, take_all (suc width) part (rw long (omega arith)))
+
+-- the bytes that the library takes from a number, from byte i on
+le_bytes_from : (k i n : ℕ) → bytes_low_first i k n ≡ bytes_of k (n / 256 ^ i)
+unfolding bytes_of
+le_bytes_from zero i n = refl
+le_bytes_from (suc k) i n =
+    let rest : n / 256 ^ suc i ≡ n / 256 ^ i / 256 = rw (div-div-eq-div-mul n (256 ^ i) 256, pow-suc) refl in
+    ap₂ (λ (b : ℕ) (bs : List ℕ). b ∷ bs) (low i) (le_bytes_from k (suc i) n ∙ ap (bytes_of k) rest)
+  where
+    low : (i : ℕ) → byte_at i n ≡ n / 256 ^ i % 256
+    low zero = omega arith
+    low (suc i) = refl
+
+-- what is written over as many bytes are the bytes of the number
+pub write : (width n : ℕ) (s bytes : List ℕ) (at k : ℕ) → at + width ≤ length s → k ≡ width → bytes ≡ bytes_low_first 0 width n
+    → put_mid at k s bytes ≡ with_number_at width s at n
+write width n s bytes at k fits same is =
+    let whole : n / 256 ^ 0 ≡ n = omega arith in
+    put_mid-paste at k s bytes (bytes_of width n) width (is ∙ rw whole at (le_bytes_from width 0 n)) (sym same) (sym (length-bytes_of width n))
+    ∙ rw (take_all width (bytes_of width n) (rw length-bytes_of (omega arith))) (sym (written width s at n fits))
 
 -- the bytes of a number that they hold stand for it
 pub number-bytes_of : (width n : ℕ) → n < 256 ^ width → number (bytes_of width n) ≡ n

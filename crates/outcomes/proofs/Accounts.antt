@@ -23,12 +23,6 @@ account-record_owner _ _ = (tt, λ _ _ p q. both (one-outcome p q) refl)
 pub account-record_payload : OneOutcomeOfSlice account-contracts.record_payload.ended account.record_payload.Reads.Pre account.record_payload.Reads.Post
 account-record_payload _ _ = (tt, λ _ _ p q. both (one-outcome p q) refl)
 
-pub account-view_in : OneOutcome account-contracts.view_in.ended account.view_in.Reads.Pre account.view_in.Reads.Post
-account-view_in _ _ = (tt, λ _ _ p q. both (one-outcome p q) refl)
-
-pub account-places_in : OneOutcomeOfSlice account-contracts.places_in.ended account.places_in.Reads.Pre account.places_in.Reads.Post
-account-places_in _ _ = (tt, λ _ _ p q. both (one-outcome p q) refl)
-
 pub table-cut_places : OneOutcome table-contracts.cut_places.ended table.cut_places.Reads.Pre table.cut_places.Reads.Post
 table-cut_places _ _ = (tt, λ _ _ p q. both (one-outcome p q) refl)
 

@@ -14,11 +14,8 @@ use Rattle.keys.specs.contracts as keys-contracts
 use Rattle.outcomes.specs.Outcome.{OneOutcome, OneOutcomeOfSlice}
 use Rattle.outcomes.proofs.Laws.{both, one-outcome}
 
-pub answer-Answer-of : OneOutcome answer-contracts.Answer.of.ended answer.Answer.of.Reads.Pre answer.Answer.of.Reads.Post
-answer-Answer-of _ _ = (tt, λ _ _ p q. both (one-outcome p q) refl)
-
-pub answer-Answer-accepts : OneOutcome answer-contracts.Answer.accepts.ended answer.Answer.accepts.Reads.Pre answer.Answer.accepts.Reads.Post
-answer-Answer-accepts _ _ = (tt, λ _ _ p q. both (one-outcome p q) refl)
+pub answer-number_of : OneOutcome answer-contracts.number_of.ended answer.number_of.Reads.Pre answer.number_of.Reads.Post
+answer-number_of _ _ = (tt, λ _ _ p q. both (one-outcome p q) refl)
 
 pub number-read_u16 : OneOutcome number-contracts.read_u16.ended number.read_u16.Reads.Pre number.read_u16.Reads.Post
 number-read_u16 _ _ = (tt, λ _ _ p q. both (one-outcome p q) refl)
@@ -50,20 +47,17 @@ key-key_of _ _ = (tt, λ _ _ p q. both (one-outcome p q) refl)
 pub key-Key-is : OneOutcome key-contracts.Key.is.ended key.Key.is.Reads.Pre key.Key.is.Reads.Post
 key-Key-is _ _ = (tt, λ _ _ p q. both (one-outcome p q) refl)
 
-pub keys-goes_on : OneOutcome keys-contracts.goes_on.ended keys.goes_on.Reads.Pre keys.goes_on.Reads.Post
-keys-goes_on _ _ = (tt, λ _ _ p q. both (one-outcome p q) refl)
-
-pub keys-is_found : OneOutcome keys-contracts.is_found.ended keys.is_found.Reads.Pre keys.is_found.Reads.Post
-keys-is_found _ _ = (tt, λ _ _ p q. both (one-outcome p q) refl)
-
-pub keys-counted : OneOutcome keys-contracts.counted.ended keys.counted.Reads.Pre keys.counted.Reads.Post
-keys-counted _ _ = (tt, λ _ _ p q. both (one-outcome p q) refl)
-
 pub keys-Keys-none : OneOutcome keys-contracts.Keys.none.ended keys.Keys.none.Reads.Pre keys.Keys.none.Reads.Post
 keys-Keys-none _ _ = (tt, λ _ _ p q. both (one-outcome p q) refl)
+
+pub keys-Keys-as_slice : OneOutcomeOfSlice keys-contracts.Keys.as_slice.ended keys.Keys.as_slice.Reads.Pre keys.Keys.as_slice.Reads.Post
+keys-Keys-as_slice _ _ = (tt, λ _ _ p q. both (one-outcome p.0 q.0) refl)
+
+pub keys-Keys-position : OneOutcome keys-contracts.Keys.position.ended keys.Keys.position.Reads.Pre keys.Keys.position.Reads.Post
+keys-Keys-position _ _ = (tt, λ _ _ p q. both (one-outcome p q) refl)
 
 pub keys-Keys-holds : OneOutcome keys-contracts.Keys.holds.ended keys.Keys.holds.Reads.Pre keys.Keys.holds.Reads.Post
 keys-Keys-holds _ _ = (tt, λ _ _ p q. both (one-outcome p q) refl)
 
-pub keys-Keys-with : OneOutcome keys-contracts.Keys.with.ended keys.Keys.with.Reads.Pre keys.Keys.with.Reads.Post
-keys-Keys-with _ _ = (tt, λ _ _ p q. both (one-outcome p q) refl)
+pub keys-Keys-push : OneOutcome keys-contracts.Keys.push.ended keys.Keys.push.Reads.Pre keys.Keys.push.Reads.Post
+keys-Keys-push _ _ = (tt, λ _ _ p q. both refl (both (one-outcome p q) refl))

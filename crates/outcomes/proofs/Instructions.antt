@@ -5,7 +5,7 @@ use Rattle.compact.proofs as compact
 use Rattle.compact.specs.contracts as compact-contracts
 use Rattle.encoding.proofs as encoding
 use Rattle.encoding.specs.contracts as encoding-contracts
-use Rattle.outcomes.specs.Outcome.{OneOutcome, OneOutcomeOfSlice}
+use Rattle.outcomes.specs.Outcome.{OneOutcome}
 use Rattle.outcomes.proofs.Laws.{both, one-outcome}
 
 pub compact-parse_compact_instructions : OneOutcome compact-contracts.parse_compact_instructions.ended compact.parse_compact_instructions.Reads.Pre compact.parse_compact_instructions.Reads.Post
@@ -13,9 +13,6 @@ compact-parse_compact_instructions _ _ = (tt, λ _ _ p q. both (one-outcome p q)
 
 pub compact-parse_programs : OneOutcome compact-contracts.parse_programs.ended compact.parse_programs.Reads.Pre compact.parse_programs.Reads.Post
 compact-parse_programs _ _ = (tt, λ _ _ p q. both (one-outcome p q) refl)
-
-pub compact-programs_in : OneOutcomeOfSlice compact-contracts.programs_in.ended compact.programs_in.Reads.Pre compact.programs_in.Reads.Post
-compact-programs_in _ _ = (tt, λ _ _ p q. both (one-outcome p q) refl)
 
 pub compact-within : OneOutcome compact-contracts.within.ended compact.within.Reads.Pre compact.within.Reads.Post
 compact-within _ _ = (tt, λ _ _ p q. both (one-outcome p q) refl)

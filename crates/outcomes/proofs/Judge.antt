@@ -36,8 +36,8 @@ programs-evaluate_pre_actions _ _ = (tt, λ _ _ p q. both (one-outcome p q) refl
 pub freeze-verify_token_authorities_unchanged : OneOutcome freeze-contracts.verify_token_authorities_unchanged.ended freeze.verify_token_authorities_unchanged.Reads.Pre freeze.verify_token_authorities_unchanged.Reads.Post
 freeze-verify_token_authorities_unchanged _ _ = (tt, λ _ _ p q. both (one-outcome p q) refl)
 
-pub outflow-amounts : OneOutcome outflow-contracts.amounts.ended outflow.amounts.Reads.Pre outflow.amounts.Reads.Post
-outflow-amounts _ _ = (tt, λ _ _ p q. both (one-outcome p q) refl)
+pub outflow-Outflow-amounts : OneOutcome outflow-contracts.Outflow.amounts.ended outflow.Outflow.amounts.Reads.Pre outflow.Outflow.amounts.Reads.Post
+outflow-Outflow-amounts _ _ = (tt, λ _ _ p q. both (one-outcome p q) refl)
 
 pub judge-judge : OneOutcome judge-contracts.judge.ended judge.judge.Reads.Pre judge.judge.Reads.Post
 judge-judge _ _ = (tt, λ _ _ p q. both (one-outcome p.0 q.0) (both (one-outcome p.1 q.1) refl))

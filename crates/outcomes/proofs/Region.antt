@@ -5,8 +5,6 @@ use Rattle.action.proofs as action
 use Rattle.action.specs.contracts as action-contracts
 use Rattle.change.proofs as change
 use Rattle.change.specs.contracts as change-contracts
-use Rattle.row.proofs as row
-use Rattle.row.specs.contracts as row-contracts
 use Rattle.region.proofs as region
 use Rattle.region.specs.contracts as region-contracts
 use Rattle.creation.proofs as creation
@@ -58,17 +56,8 @@ action-expected_data_size _ _ = (tt, λ _ _ p q. both (one-outcome p q) refl)
 pub change-apply_change : OneOutcome change-contracts.apply_change.ended change.apply_change.Reads.Pre change.apply_change.Reads.Post
 change-apply_change _ _ = (tt, λ _ _ p q. both refl (both (one-outcome p q) refl))
 
-pub row-actions_in : OneOutcomeOfSlice row-contracts.actions_in.ended row.actions_in.Reads.Pre row.actions_in.Reads.Post
-row-actions_in _ _ = (tt, λ _ _ p q. both (one-outcome p q) refl)
-
-pub row-how_many : OneOutcome row-contracts.how_many.ended row.how_many.Reads.Pre row.how_many.Reads.Post
-row-how_many _ _ = (tt, λ _ _ p q. both (one-outcome p q) refl)
-
-pub row-action_in : OneOutcome row-contracts.action_in.ended row.action_in.Reads.Pre row.action_in.Reads.Post
-row-action_in _ _ = (tt, λ _ _ p q. both (one-outcome p q) refl)
-
-pub region-parse-parse_actions : OneOutcome region-contracts.parse.parse_actions.ended region.parse.parse_actions.Reads.Pre region.parse.parse_actions.Reads.Post
-region-parse-parse_actions _ _ = (tt, λ _ _ p q. both (one-outcome p q) refl)
+pub region-parse_actions : OneOutcome region-contracts.parse_actions.ended region.parse_actions.Reads.Pre region.parse_actions.Reads.Post
+region-parse_actions _ _ = (tt, λ _ _ p q. both (one-outcome p q) refl)
 
 pub creation-how_often : OneOutcome creation-contracts.how_often.ended creation.how_often.Reads.Pre creation.how_often.Reads.Post
 creation-how_often _ _ = (tt, λ _ _ p q. both (one-outcome p q) refl)

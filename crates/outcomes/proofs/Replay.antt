@@ -7,8 +7,11 @@ use Rattle.framed.proofs as framed
 use Rattle.framed.specs.contracts as framed-contracts
 use Rattle.run.proofs as run
 use Rattle.run.specs.contracts as run-contracts
-use Rattle.outcomes.specs.Outcome.{OneOutcome}
+use Rattle.outcomes.specs.Outcome.{OneOutcome, OneOutcomeOfSlice}
 use Rattle.outcomes.proofs.Laws.{both, one-outcome}
+
+pub frame-Part-of : OneOutcomeOfSlice frame-contracts.Part.of.ended frame.Part.of.Reads.Pre frame.Part.of.Reads.Post
+frame-Part-of _ _ = (tt, λ _ _ p q. both (one-outcome p q) refl)
 
 pub frame-opening_size : OneOutcome frame-contracts.opening_size.ended frame.opening_size.Reads.Pre frame.opening_size.Reads.Post
 frame-opening_size _ _ = (tt, λ _ _ p q. both (one-outcome p q) refl)

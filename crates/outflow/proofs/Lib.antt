@@ -1,1 +1,1 @@
-pub mod Outflow
+pub mod Amounts

@@ -1,1 +1,2 @@
 pub mod Outflow
+pub mod Views

@@ -1,63 +1,35 @@
 // The amount that each action's rule looks at.
 #![tactic(auto)]
 
-ghost use Rattle.std.specs.Prelude.{◌≡◌, true, map, min, length};
+ghost use Rattle.std.specs.Prelude.{◌≡◌, MatchOption, ⊤, map, position};
+ghost use Rattle.key.specs.Key.{same_key};
 ghost use Rattle.keys.specs.Views.{keys_in};
 ghost use Rattle.action.specs.Fields.{key_of};
 ghost use Rattle.action.specs.Views.{action_at};
-ghost use Rattle.row.specs.Views.{action_views, actions_in};
-ghost use Rattle.region.specs.Region.{most_actions};
-ghost use Rattle.account.specs.Views.{records_in};
+ghost use Rattle.row.specs.Views.{actions_in};
+ghost use Rattle.account.specs.Views.{table_records};
 ghost use Rattle.balance.specs.Views.{sums_of};
+ghost use Rattle.outflow.specs.Views.{sum_for};
 ghost use Rattle.outflow.specs.Outflow.{decrease_of, sol_amount, amount_from};
 
+use account::Table;
 use action::fields::{is_token, key_of};
 use action::{ActionView, SOL_MAX_PER_TX};
 use balance::{Sums, balance, balances};
 use keys::Keys;
 use number::floored_difference;
 use region::MAX_ACTIONS;
-use row::{action_in, how_many};
+use std::array;
 
-// How much the vault's balance of a mint went down.
-fn token_decrease(
-    before: &[u8],
-    before_places: &[usize],
-    after: &[u8],
-    after_places: &[usize],
-    vault: &[u8],
-    mint: &[u8],
-) -> u64
-    ensures { result ≡ decrease_of vault.now (records_in before.now before_places.now) (records_in after.now after_places.now) mint.now }
-{
-    let had = balance(before, before_places, vault, mint);
-    let has = balance(after, after_places, vault, mint);
-    floored_difference(had, has)
-}
-
-// How much the balance of each listed mint went down: each table is walked once, whatever the number of
-// mints and of their limits.
-fn mint_decreases(
-    before: &[u8],
-    before_places: &[usize],
-    after: &[u8],
-    after_places: &[usize],
-    vault: &[u8],
-    mints: Keys,
-) -> Sums
-    ensures { result ≡ sums_of (map (decrease_of vault.now (records_in before.now before_places.now) (records_in after.now after_places.now)) (keys_in mints)) }
-{
-    let had = balances(before, before_places, vault, mints);
-    let has = balances(after, after_places, vault, mints);
-    let n = keys::counted(mints.count);
-    let mut list = [0u64; MAX_ACTIONS];
-    let mut i = 0;
-    while i < n {
-        let decrease = floored_difference(had.list[i], has.list[i]);
-        list[i] = decrease;
-        i += 1;
-    }
-    Sums { list }
+// What a call moved: the account tables before and after it, the vault whose balances are looked at, how
+// far its lamports went down, and the gross outflow.
+#[derive(Clone, Copy)]
+pub struct Outflow<'a> {
+    pub before: Table<'a>,
+    pub after: Table<'a>,
+    pub vault: &'a [u8],
+    pub sol: u64,
+    pub gross: u64,
 }
 
 // What the rule of an action on SOL looks at.
@@ -67,92 +39,62 @@ fn sol_amount(kind: u8, sol: u64, gross: u64) -> u64
     if kind == SOL_MAX_PER_TX { gross } else { sol }
 }
 
-// What the rule of one action looks at, where the decrease of its mint is known if the mint is listed.
-fn amount_known(
-    known: u64,
-    is_listed: bool,
-    region: &[u8],
-    view: ActionView,
-    before: &[u8],
-    before_places: &[usize],
-    after: &[u8],
-    after_places: &[usize],
-    vault: &[u8],
-    sol: u64,
-    gross: u64,
-) -> u64
-    requires { is_listed ≡ true → known ≡ decrease_of vault.now (records_in before.now before_places.now) (records_in after.now after_places.now) (key_of (action_at region.now view)) }
-    ensures { result ≡ amount_from vault.now (records_in before.now before_places.now) (records_in after.now after_places.now) sol gross (action_at region.now view) }
-{
-    if !is_token(view.kind) {
-        return sol_amount(view.kind, sol, gross);
+impl Outflow<'_> {
+    // How much the vault's balance of a mint went down.
+    fn token_decrease(&self, mint: &[u8]) -> u64
+        ensures { result ≡ decrease_of self.now.vault.now (table_records self.now.before) (table_records self.now.after) mint.now }
+    {
+        let had = balance(self.before, self.vault, mint);
+        let has = balance(self.after, self.vault, mint);
+        floored_difference(had, has)
     }
-    if is_listed {
-        return known;
-    }
-    token_decrease(
-        before,
-        before_places,
-        after,
-        after_places,
-        vault,
-        key_of(region, view),
-    )
-}
 
-// How many actions of a row have an amount.
-fn counted(actions: &[u64]) -> usize
-    ensures { result ≡ min (length (action_views actions.now)) most_actions }
-{
-    let n = how_many(actions);
-    if n < MAX_ACTIONS { n } else { MAX_ACTIONS }
-}
-
-// An amount for each action of the region, its mint looked up among the listed ones: `sol` is the
-// decrease in lamports, `gross` the gross outflow.
-pub fn amounts(
-    region: &[u8],
-    actions: &[u64],
-    before: &[u8],
-    before_places: &[usize],
-    after: &[u8],
-    after_places: &[usize],
-    vault: &[u8],
-    sol: u64,
-    gross: u64,
-    mints: Keys,
-) -> Sums
-    ensures { result ≡ sums_of (map (amount_from vault.now (records_in before.now before_places.now) (records_in after.now after_places.now) sol gross) (actions_in region.now actions.now)) }
-{
-    let decreases = mint_decreases(before, before_places, after, after_places, vault, mints);
-    let count = keys::counted(mints.count);
-    let n = counted(actions);
-    let mut list = [0u64; MAX_ACTIONS];
-    let mut i = 0;
-    while i < n {
-        let view = action_in(actions, i);
-        let mint = key_of(region, view);
-        let mut at = 0;
-        let mut k = mints.list[0];
-        while keys::goes_on(k, mint, at, count) {
-            at += 1;
-            k = mints.list[at];
+    // How much the balance of each listed mint went down: each table is walked once, whatever the number
+    // of mints and of their limits.
+    fn mint_decreases(&self, mints: &Keys) -> Sums
+        ensures { result ≡ sums_of (map (decrease_of self.now.vault.now (table_records self.now.before) (table_records self.now.after)) (keys_in mints.now)) }
+    {
+        let had = balances(self.before, self.vault, mints);
+        let has = balances(self.after, self.vault, mints);
+        Sums {
+            list: array::from_fn(|i| floored_difference(had.list[i], has.list[i])),
         }
-        let amount = amount_known(
-            decreases.list[at],
-            keys::is_found(k, mint, count),
-            region,
-            view,
-            before,
-            before_places,
-            after,
-            after_places,
-            vault,
-            sol,
-            gross,
-        );
-        list[i] = amount;
-        i += 1;
     }
-    Sums { list }
+
+    // What the rule of one action looks at, where the decrease of its mint is known if the mint is listed.
+    fn amount(&self, region: &[u8], view: ActionView, known: Option<u64>) -> u64
+        requires { MatchOption known ⊤ (λ d. d ≡ decrease_of self.now.vault.now (table_records self.now.before) (table_records self.now.after) (key_of (action_at region.now view))) }
+        ensures { result ≡ amount_from self.now.vault.now (table_records self.now.before) (table_records self.now.after) self.now.sol self.now.gross (action_at region.now view) }
+    {
+        if !is_token(view.kind) {
+            return sol_amount(view.kind, self.sol, self.gross);
+        }
+        match known {
+            Some(decrease) => decrease,
+            None => self.token_decrease(key_of(region, view)),
+        }
+    }
+
+    // An amount for each action of the region, its mint looked up among the listed ones.
+    pub fn amounts(&self, region: &[u8], views: &[ActionView], mints: &Keys) -> Sums
+        ensures { result ≡ sums_of (map (amount_from self.now.vault.now (table_records self.now.before) (table_records self.now.after) self.now.sol self.now.gross) (actions_in region.now views.now)) }
+    {
+        let decreases = self.mint_decreases(mints);
+        let mut list = [0u64; MAX_ACTIONS];
+        // By index: a proof knows nothing of what an adapter of `iter_mut` lends.
+        for i in 0..views.len().min(MAX_ACTIONS) {
+            let view = views[i];
+            let known = listed(&decreases, mints, key_of(region, view));
+            let amount = self.amount(region, view, known);
+            list[i] = amount;
+        }
+        Sums { list }
+    }
+}
+
+// What a list has for a key, where the key is listed.
+fn listed(sums: &Sums, keys: &Keys, key: &[u8]) -> Option<u64>
+    ensures { result ≡ sum_for (position (λ k. same_key k key.now) (keys_in keys.now)) sums.now }
+{
+    sums.list.get(keys.position(key)?).copied()
 }

@@ -1,8 +1,8 @@
 -- Step 5: each instruction's program against the lists.
 -- Assumes nothing.
 use Rattle.std.specs.Prelude.{ℕ, Bool, false, not, ◌&&◌, ◌||◌, List, [], ◌∷◌, map, eqb, ltb, length}
-use Rattle.answer.specs.declared.Answer.{Answer}
-use Rattle.answer.specs.Numbers.{first_refusal, refuse_if, invalid_instruction_data, action_program_not_whitelisted, action_program_blacklisted}
+use Rattle.answer.specs.declared.Refusal.TheVariants.{InvalidInstructionData, ActionProgramNotWhitelisted, ActionProgramBlacklisted}
+use Rattle.answer.specs.Numbers.{Answer, first_refusal, refuse_if}
 use Rattle.key.specs.Key.{same_key}
 use Rattle.action.specs.Action.{Action, expired, program_whitelist, program_blacklist}
 use Rattle.action.specs.Fields.{key_of}
@@ -21,8 +21,8 @@ unfoldable pub lists_answer : ℕ → List Action → List ℕ → Answer
 unfolding in_live_list
 lists_answer slot l key =
     first_refusal
-    (refuse_if (ltb 0 (how_often program_whitelist (kinds_of l)) && not (in_live_list program_whitelist slot key l)) action_program_not_whitelisted
-    ∷ refuse_if (in_live_list program_blacklist slot key l) action_program_blacklisted
+    (refuse_if (ltb 0 (how_often program_whitelist (kinds_of l)) && not (in_live_list program_whitelist slot key l)) ActionProgramNotWhitelisted
+    ∷ refuse_if (in_live_list program_blacklist slot key l) ActionProgramBlacklisted
     ∷ [])
 
 -- what a program index answers: first that it is in range
@@ -30,7 +30,7 @@ unfoldable pub program_answer : ℕ → List Action → List Record → ℕ → 
 unfolding lists_answer
 program_answer slot l records program =
     first_refusal
-    (refuse_if (not (ltb program (length records))) invalid_instruction_data ∷ lists_answer slot l (key_among records program) ∷ [])
+    (refuse_if (not (ltb program (length records))) InvalidInstructionData ∷ lists_answer slot l (key_among records program) ∷ [])
 
 -- each instruction's program index in turn
 unfoldable pub programs_answer : ℕ → List Action → List Record → List ℕ → Answer

@@ -9,7 +9,7 @@ use lib.ListN.{length, get_or, take, drop, length-append, length-drop, take-appe
 use lib.Seq.{drop-drop, drop-cons, take_at, drop_at, length-take-le}
 use Rattle.answer.specs.Each.{Each}
 use Rattle.answer.proofs.Each.{each_so}
-use Rattle.answer.specs.Refusable.{given}
+use Rattle.answer.specs.Refusable.{Ok}
 use Rattle.number.specs.Number.{number, bytes_of, Bytes}
 use Rattle.number.proofs.Laws.{bytes_of-number, number-bytes_of, length-bytes_of, bytes_take, bytes_drop, bytes_append, bytes_of_bytes}
 use Rattle.part.specs.Part.{part_at}
@@ -99,7 +99,7 @@ module _ (a : Action) (r s : List ℕ) (is : s ≡ a.kind ∷ bytes_of 2 (length
   rest_glued : drop (11 + length a.payload) s ≡ r
   rest_glued = sym (drop-drop (length a.payload) 11 s) ∙ ap (drop (length a.payload)) from_payload ∙ drop_at a.payload r _ refl
 
-pub first_glued : (a : Action) (r : List ℕ) → Fits a → first (glue_one a ++ r) ≡ given (record { act = a; rest = r })
+pub first_glued : (a : Action) (r : List ℕ) → Fits a → first (glue_one a ++ r) ≡ Ok (record { act = a; rest = r })
 first_glued a r fits =
     let s = glue_one a ++ r in
     let is : s ≡ a.kind ∷ bytes_of 2 (length a.payload) ++ (bytes_of 8 a.expires ++ (a.payload ++ r)) =
@@ -111,7 +111,7 @@ first_glued a r fits =
     ∙ rw (size, kind_glued a r s is, expires_stated a r s is fits.soon, payload_glued a r s is, rest_glued a r s is)
 
 -- what was glued, at most n actions, cuts to them
-pub cut-glue : (n : ℕ) (l : List Action) → Each Fits l → length l ≤ n → cut n (glue l) ≡ given l
+pub cut-glue : (n : ℕ) (l : List Action) → Each Fits l → length l ≤ n → cut n (glue l) ≡ Ok l
 unfolding glue
 cut-glue n [] fit h = cut_end n [] (omega arith)
 cut-glue zero (a ∷ l) fit h = absurd (let z : ◌≡◌ {A = ℕ} 0 1 = omega arith in omega arith)

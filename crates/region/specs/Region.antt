@@ -1,8 +1,8 @@
 -- The action region: a row of actions, cut from bytes and glued to bytes.
 -- Assumes nothing.
 use Rattle.std.specs.Prelude.{ℕ, zero, suc, ◌+◌, cond, ◌&&◌, List, [], ◌∷◌, ◌++◌, leb, ltb, length, get_or, take, drop}
-use Rattle.answer.specs.Numbers.{answer, action_buffer_invalid}
-use Rattle.answer.specs.Refusable.{Refusable, given, refused, change}
+use Rattle.answer.specs.declared.Refusal.TheVariants.{ActionBufferInvalid}
+use Rattle.answer.specs.Refusable.{Refusable, Ok, Err, change}
 use Rattle.number.specs.Number.{number, bytes_of}
 use Rattle.action.specs.Action.{Action, data_length}
 
@@ -28,20 +28,20 @@ unfoldable pub first : List ℕ → Refusable First
 unfolding header_data_length
 first s =
     cond (leb header_length (length s) && ltb 0 (data_length (get_or s 0 0)) && leb (header_length + header_data_length s) (length s))
-    (given (record {
+    (Ok (record {
       act = record { kind = get_or s 0 0; expires = number (take 8 (drop 3 s)); payload = take (header_data_length s) (drop header_length s) };
       rest = drop (header_length + header_data_length s) s;
     }))
-    (refused (answer action_buffer_invalid))
+    (Err ActionBufferInvalid)
 
 -- the actions of a region, at most `most` of them
 unfoldable pub cut : ℕ → List ℕ → Refusable (List Action)
 unfolding first
-cut zero [] = given []
-cut zero (b ∷ bs) = refused (answer action_buffer_invalid)
-cut (suc most) [] = given []
+cut zero [] = Ok []
+cut zero (b ∷ bs) = Err ActionBufferInvalid
+cut (suc most) [] = Ok []
 cut (suc most) (b ∷ bs) =
-    elim (first (b ∷ bs)) [ given f ↦ change (λ (l : List Action). f.act ∷ l) (cut most f.rest) | refused r ↦ refused r ]
+    elim (first (b ∷ bs)) [ Ok f ↦ change (λ (l : List Action). f.act ∷ l) (cut most f.rest) | Err r ↦ Err r ]
 
 -- the bytes of an action
 unfoldable pub glue_one : Action → List ℕ

@@ -4,55 +4,40 @@
 
 ghost use Rattle.std.specs.Prelude.{◌≤◌, length};
 
-use answer::Answer;
+use answer::number_of;
 use run::{Fed, MAX_CALL, MAX_OPENING, Said, State};
 use std::io;
 use std::io::Read;
-
-fn print_number(rt: &impl Print, word: &str, number: u64) -> io::Result<()> {
-    print!(rt; "{word}{number}")
-}
-
-fn print_line(rt: &impl Print, word: &str, number: u64) -> io::Result<()> {
-    println!(rt; "{word}{number}")
-}
-
-fn print_call(rt: &impl Print, calls: u64, answer: Answer) -> io::Result<()> {
-    print_number(rt, "call ", calls)?;
-    print_line(rt, " ", answer.number as u64)
-}
+use std::ops::Range;
 
 // That more is needed is no line.
 fn print_said(rt: &impl Print, said: Said) -> io::Result<()> {
     match said {
         Said::More => Ok(()),
-        Said::Region(answer) => print_line(rt, "region ", answer.number as u64),
-        Said::Call(calls, answer) => print_call(rt, calls, answer),
+        Said::Region(answer) => println!(rt; "region {}", number_of(answer)),
+        Said::Call(calls, answer) => println!(rt; "call {calls} {}", number_of(answer)),
         Said::Cut => println!(rt; "cut"),
-        Said::End(accepted) => print_line(rt, "end ", accepted),
+        Said::End(accepted) => println!(rt; "end {accepted}"),
     }
 }
 
-// Where what is left of a piece starts and ends.
-#[derive(Clone, Copy)]
-struct Left {
-    at: usize,
-    end: usize,
-}
-
-// What is left, or where more is needed what one read gives: a piece that ends at 0 where the input
-// ended or the read failed.
-fn left_or_read(input: &mut impl Read, left: Left, said: Said, piece: &mut [u8]) -> Left
-    requires at_le_end { left.at ≤ left.end }
-    requires end_in_bounds { left.end ≤ length piece.old }
-    ensures at_le_end_2 { result.at ≤ result.end }
-    ensures end_in_bounds_2 { result.end ≤ length piece.new }
+// What is left of a piece, or where more is needed what one read gives: a piece that ends at 0 where
+// the input ended or the read failed.
+fn left_or_read(
+    input: &mut impl Read,
+    left: Range<usize>,
+    said: Said,
+    piece: &mut [u8],
+) -> Range<usize>
+    requires in_order { left.start ≤ left.end }
+    requires in_bounds { left.end ≤ length piece.old }
+    ensures still_in_order { result.start ≤ result.end }
+    ensures still_in_bounds { result.end ≤ length piece.new }
 {
-    if let Said::More = said {
-        let end = input.read(piece).unwrap_or(0);
-        return Left { at: 0, end };
+    match said {
+        Said::More => 0..input.read(piece).unwrap_or(0),
+        _ => left,
     }
-    left
 }
 
 // Feeds what is left of a piece, or the end of the input.
@@ -82,15 +67,19 @@ fn replay(
 ) -> io::Result<()> {
     let mut state = State::new();
     let mut said = Said::More;
-    let mut left = Left { at: 0, end: 0 };
+    let mut left = 0..0;
     for _ in 0..u64::MAX {
         left = left_or_read(input, left, said, piece);
-        let at = left.at;
-        let end = left.end;
-        let fed = go_on(state, end == 0, opening, frame, &piece[at..end]);
+        let fed = go_on(
+            state,
+            left.end == 0,
+            opening,
+            frame,
+            &piece[left.start..left.end],
+        );
         state = fed.state;
         said = fed.said;
-        left.at += fed.used;
+        left.start += fed.used;
         print_said(rt, said)?;
         if let Said::End(_) = said {
             break;

@@ -8,7 +8,7 @@ use native.Mathlib.Nat.{le_refl}
 use native.Mathlib.Omega.{arith}
 use lib.ListN.{length, take, drop, length-append}
 use lib.Seq.{take-append_seam, drop-append_seam, drop_at, length-take-le}
-use Rattle.answer.specs.Numbers.{accepts}
+use Rattle.answer.specs.Numbers.{number_of, accepts}
 use Rattle.number.specs.Number.{capped_sum, highest}
 use Rattle.judge.specs.Judge.{Call, judged, region_after}
 use Rattle.frame.specs.declared.CallView.{CallView}
@@ -55,7 +55,7 @@ module _ (held : List ℕ) (calls accepted : ℕ) (s t : List ℕ) (size : lengt
         calls_whole (s ++ t) c front' ∙ rw (call_before_more_input s t c front, behind)
 
     pub lines_call : lines_of held calls accepted (s ++ t)
-        ≡ call_line (calls + 1) (judged held (call_in s c)).number
+        ≡ call_line (calls + 1) (number_of (judged held (call_in s c)))
         ∷ lines_of (region_after held (call_in s c)) (calls + 1) (accepted + cond (accepts (judged held (call_in s c))) 1 0) t
     unfolding call_lines
     lines_call = rw calls_are

@@ -9,7 +9,7 @@ use native.Mathlib.Omega.{arith}
 use borrow.Author.Tests.{le-leb, lt-leb}
 use lib.ListN.{length, take, drop, length-append, length-drop}
 use lib.Seq.{length-take-le, take-append_seam, drop-append_seam}
-use Rattle.answer.specs.Numbers.{accepts}
+use Rattle.answer.specs.Numbers.{number_of, accepts}
 use Rattle.number.specs.Number.{Bytes, number_at}
 use Rattle.number.proofs.Laws.{bytes_take, bytes_drop}
 use Rattle.creation.specs.Creation.{creation}
@@ -62,11 +62,11 @@ module _ (s t : List ℕ) (size : length s ≡ opening_size s) where
 
   module _ (held : List ℕ) (is : held ≡ opening_region s) where
     pub replay_accepted : accepts (creation held) ≡ true
-        → replay_of (s ++ t) ≡ region_line (creation held).number ∷ lines_of held 0 0 t
+        → replay_of (s ++ t) ≡ region_line (number_of (creation held)) ∷ lines_of held 0 0 t
     unfolding lines_from
     replay_accepted yes' = rw replay_there (rw (← is, yes'))
 
-    pub replay_refused : accepts (creation held) ≡ false → replay_of (s ++ t) ≡ region_line (creation held).number ∷ end_line 0 ∷ []
+    pub replay_refused : accepts (creation held) ≡ false → replay_of (s ++ t) ≡ region_line (number_of (creation held)) ∷ end_line 0 ∷ []
     unfolding lines_from
     replay_refused no' = rw replay_there (rw (← is, no'))
 

@@ -7,9 +7,11 @@ use mathlib.Core.List.{List, [], ◌∷◌, ◌++◌}
 use mathlib.Core.Option.{some}
 use native.Mathlib.Nat.{zero-add}
 use native.Mathlib.Omega.{arith}
-use borrow.Author.Tests.{le-leb, eqb-true}
+use borrow.Author.Tests.{le-leb}
+use lib.Dec.{eqb}
 use lib.ListN.{length, drop}
-use Rattle.answer.specs.Numbers.{accepted, accepts}
+use Rattle.answer.specs.Numbers.{number_of, accepts, accepted}
+use Rattle.answer.proofs.Laws.{accepts_by_number, accepted_is}
 use Rattle.number.specs.Number.{Bytes, highest, number_at}
 use Rattle.number.proofs.Laws.{bytes_take, bytes_drop, read_below}
 use Rattle.action.specs.Fields.{remaining, limit}
@@ -38,8 +40,9 @@ lines_are_numbered [] held calls accepted' false = ap (λ (n : ℕ). end_line n 
 lines_are_numbered (c ∷ l) held calls accepted' is_cut =
     let one : ℕ = cond (accepts (judged held c)) 1 0 in
     let rest = how_often accepted (numbers_of ours (region_after held c) l) in
-    let sum : accepted' + one + rest ≡ accepted' + (one + rest) = omega arith in
-    ap (λ (k : List Line). call_line (calls + 1) (judged held c).number ∷ k)
+    let counted : cond (eqb (number_of (judged held c)) accepted) 1 0 ≡ one = ap (λ (t : Bool). cond t 1 0) (accepts_by_number (judged held c)) in
+    let sum : accepted' + one + rest ≡ accepted' + (cond (eqb (number_of (judged held c)) accepted) 1 0 + rest) = omega (arith, counted) in
+    ap (λ (k : List Line). call_line (calls + 1) (number_of (judged held c)) ∷ k)
     (lines_are_numbered l (region_after held c) (calls + 1) (accepted' + one) is_cut
     ∙ ap (λ (n : ℕ). numbered (calls + 1) (numbers_of ours (region_after held c) l) ++ (cond is_cut (cut_line ∷ []) [] ++ (end_line n ∷ []))) sum)
 
@@ -75,7 +78,7 @@ module _ (input : List ℕ) (opened : Opened input) where
   pub a_replay_prints_the_numbers_of_a_run : replay_of input ≡ printed (run_of input) (numbers_of ours (opening_region input) (run_of input).list)
   unfolding replay_of lines_from printed
   a_replay_prints_the_numbers_of_a_run =
-      let number_is : (creation (opening_region input)).number ≡ accepted = eqb-true _ _ opened.accepts_it in
+      let number_is : number_of (creation (opening_region input)) ≡ accepted = ap number_of (accepted_is _ opened.accepts_it) in
       rw (le-leb _ _ opened.all_there, opened.accepts_it, number_is)
       (ap (λ (k : List Line). region_line accepted ∷ k) (lines_are_numbered (run_of input).list (opening_region input) 0 0 (run_of input).is_cut ∙ rw zero-add))
 

@@ -1,7 +1,7 @@
 -- A run that is fed an input in pieces, whatever they are, and what it says.
 -- Assumes nothing.
 use Rattle.std.specs.Prelude.{ℕ, ◌≡◌, Bool, true, false, cond, ◌&&◌, List, [], ◌∷◌, ◌++◌, leb, length, drop}
-use Rattle.answer.specs.Numbers.{accepts}
+use Rattle.answer.specs.Numbers.{number_of, accepts}
 use Rattle.creation.specs.Creation.{creation}
 use Rattle.frame.specs.Frame.{opening_size, opening_region}
 use Rattle.bursar.specs.Run.{ours, after_run}
@@ -14,8 +14,8 @@ use Rattle.run.specs.Views.{begun, marked, region_in, fed, opening_fed, frame_fe
 -- the line for what was said
 abbrev pub line_of : Said → List Line
 line_of More = []
-line_of (Region a) = region_line a.number ∷ []
-line_of (Call k a) = call_line k a.number ∷ []
+line_of (Region a) = region_line (number_of a) ∷ []
+line_of (Call k a) = call_line k (number_of a) ∷ []
 line_of Cut = cut_line ∷ []
 line_of (End n) = end_line n ∷ []
 

@@ -1,7 +1,7 @@
 -- A replay as the bursar's run: the calls that it runs on its opening region, and its lines by the numbers of that run.
 -- Assumes nothing.
 use Rattle.std.specs.Prelude.{ℕ, ◌+◌, ◌≤◌, ◌≡◌, true, cond, List, [], ◌∷◌, ◌++◌, length, drop}
-use Rattle.answer.specs.Numbers.{accepted, accepts}
+use Rattle.answer.specs.Numbers.{accepts, accepted}
 use Rattle.number.specs.Number.{Bytes}
 use Rattle.creation.specs.Creation.{creation, how_often}
 use Rattle.frame.specs.Frame.{opening_size, opening_region}

@@ -1,7 +1,7 @@
 -- The replay: what is printed for the bytes of an input.
 -- Assumes nothing.
 use Rattle.std.specs.Prelude.{ℕ, zero, suc, ◌+◌, Bool, true, false, cond, List, [], ◌∷◌, leb, ltb, length, drop}
-use Rattle.answer.specs.Numbers.{accepts}
+use Rattle.answer.specs.Numbers.{number_of, accepts}
 use Rattle.creation.specs.Creation.{creation}
 use Rattle.judge.specs.Judge.{Call, judged, region_after}
 use Rattle.frame.specs.declared.Front.TheVariants.{Whole, Long, Short}
@@ -43,13 +43,13 @@ pub data Line : Type 0 where
 unfoldable pub call_lines : List ℕ → ℕ → ℕ → Bool → List Call → List Line
 call_lines held calls accepted is_cut [] = cond is_cut (cut_line ∷ end_line accepted ∷ []) (end_line accepted ∷ [])
 call_lines held calls accepted is_cut (c ∷ l) =
-    call_line (calls + 1) (judged held c).number ∷ call_lines (region_after held c) (calls + 1) (accepted + cond (accepts (judged held c)) 1 0) is_cut l
+    call_line (calls + 1) (number_of (judged held c)) ∷ call_lines (region_after held c) (calls + 1) (accepted + cond (accepts (judged held c)) 1 0) is_cut l
 
 -- the lines behind the opening: a refused region runs no calls
 unfoldable pub lines_from : List ℕ → ReadCalls → List Line
 unfolding call_lines
 lines_from held calls =
-    region_line (creation held).number ∷ cond (accepts (creation held)) (call_lines held 0 0 calls.is_cut calls.list) (end_line 0 ∷ [])
+    region_line (number_of (creation held)) ∷ cond (accepts (creation held)) (call_lines held 0 0 calls.is_cut calls.list) (end_line 0 ∷ [])
 
 -- the lines of an input: cut where it stops inside the opening
 unfoldable pub replay_of : List ℕ → List Line

@@ -1,2 +1,1 @@
-pub mod InRow
 pub mod Views

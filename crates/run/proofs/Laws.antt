@@ -1,13 +1,15 @@
 -- Laws of a run's next state, each by the tests that lead to it.
 -- Assumes nothing.
 use Prim.Native.Nat.{ℕ, ◌<◌, ◌≤◌}
-use mathlib.Core.Path.{◌≡◌, ap}
-use mathlib.Core.Bool.{true, false}
+use mathlib.Core.Path.{◌≡◌, refl, sym, ap, ◌∙◌}
+use mathlib.Core.Bool.{Bool, true, false, cond}
 use mathlib.Core.List.{List}
 use borrow.Author.Tests.{eq-eqb, ne_eqb}
 use lib.ListN.{length}
-use Rattle.answer.specs.declared.Answer.{Answer}
-use Rattle.answer.specs.Numbers.{accepts}
+use mir.Val.{bool_byte}
+use Rattle.std.specs.Result.{is_ok, is_err}
+use Rattle.answer.specs.Numbers.{Answer, accepts}
+use Rattle.answer.specs.Refusable.{Ok, Err}
 use Rattle.number.specs.Number.{number_at}
 use Rattle.creation.specs.Creation.{creation}
 use Rattle.judge.specs.Judge.{judged}
@@ -28,6 +30,20 @@ pub record FedAs (s : State) (opening frame piece : List ℕ) (r : Fed) (opening
   pub result : fed s opening frame piece ≡ r
   pub opening_is : opening_fed s opening frame piece ≡ opening'
   pub frame_is : frame_fed s frame piece ≡ frame'
+
+-- ---- the library's tests on an answer are the definition's
+
+pub is_accepted : (a : Answer) → is_err a ≡ false → accepts a ≡ true
+is_accepted (Ok _) is = refl
+is_accepted (Err r) is = sym is
+
+pub is_refused : (a : Answer) → is_err a ≡ true → accepts a ≡ false
+is_refused (Ok _) is = sym is
+is_refused (Err r) is = refl
+
+pub counted : (a : Answer) (is_so : Bool) (one : ℕ) → is_so ≡ is_ok a → one ≡ bool_byte is_so → one ≡ cond (accepts a) 1 0
+counted (Ok _) is_so one is e = e ∙ ap bool_byte is
+counted (Err r) is_so one is e = e ∙ ap bool_byte is
 
 module _ (s : State) where
   pub marked_opening : s.stage ≡ Opening → marked s ≡ stopped s 0 Cut

@@ -8,8 +8,7 @@ use mathlib.Core.Logic.{⊎_elim}
 use native.Mathlib.Omega.{arith}
 use lib.Dec.{eqb}
 use lib.ListN.{length, take}
-use Rattle.answer.specs.declared.Answer.{Answer}
-use Rattle.answer.specs.Numbers.{accepts}
+use Rattle.answer.specs.Numbers.{Answer, accepts}
 use Rattle.frame.specs.Frame.{opening_size}
 use Rattle.frame.specs.Views.{call_size}
 use Rattle.frame.proofs.Theorems.{le_or_lt, Sized, short, long, past, there as all_there, sized}

@@ -2,8 +2,7 @@
 -- Assumes nothing.
 use Rattle.std.specs.Prelude.{ℕ, ◌+◌, ◌-◌, min, cond, List, ◌++◌, eqb, length, take, drop}
 use Rattle.std.proofs.Math.Seq.{paste}
-use Rattle.answer.specs.declared.Answer.{Answer}
-use Rattle.answer.specs.Numbers.{accepts}
+use Rattle.answer.specs.Numbers.{Answer, accepts}
 use Rattle.number.specs.Number.{capped_sum}
 use Rattle.frame.specs.Frame.{region_length_size, call_head, most_parts, opening_size}
 use Rattle.frame.specs.Views.{call_size}

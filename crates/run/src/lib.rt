@@ -3,7 +3,7 @@
 // opening, in which the region is judged where it lies, the other the call that is coming.
 #![tactic(auto)]
 
-ghost use Rattle.std.specs.Prelude.{◌+◌, ◌-◌, ◌≤◌, min, ◌≡◌, cond, length, take};
+ghost use Rattle.std.specs.Prelude.{◌+◌, ◌-◌, ◌≤◌, min, ◌≡◌, length, take};
 ghost use Rattle.std.proofs.Math.Seq.{paste};
 ghost use Rattle.run.specs.declared.Stage.TheVariants.{Opening, Calls};
 ghost use Rattle.run.specs.Views.{begun, waits, stopped, opened, call_said, hears, marked, wanted_of, most_of, taken_of, memory_fed, fed_opening, fed_call, opening_called, fed, opening_fed, frame_fed};
@@ -17,7 +17,8 @@ pub const MAX_OPENING: usize = 65537;
 
 pub const MAX_CALL: usize = 60076;
 
-// What is coming: the opening, a call, or nothing any more.
+// What is coming: the opening, a call, or nothing any more. An enum and no closure: a run is handed on as a
+// value.
 #[derive(Clone, Copy)]
 pub enum Stage {
     Opening,
@@ -56,18 +57,6 @@ pub struct Fed {
     pub said: Said,
 }
 
-fn least(a: usize, b: usize) -> usize
-    ensures { result ≡ min a b }
-{
-    if a < b { a } else { b }
-}
-
-fn one_if(is_so: bool) -> u64
-    ensures { result ≡ cond is_so 1 0 }
-{
-    if is_so { 1 } else { 0 }
-}
-
 impl State {
     // A run of which nothing came yet.
     pub fn new() -> Self
@@ -85,14 +74,7 @@ impl State {
     fn waits(self, used: usize, got: usize) -> Fed
         ensures { result ≡ waits self used got }
     {
-        let stage = self.stage;
-        let state = State {
-            stage,
-            got,
-            region: self.region,
-            calls: self.calls,
-            accepted: self.accepted,
-        };
+        let state = State { got, ..self };
         Fed {
             used,
             state,
@@ -106,9 +88,7 @@ impl State {
         let state = State {
             stage: Stage::Over,
             got: 0,
-            region: self.region,
-            calls: self.calls,
-            accepted: self.accepted,
+            ..self
         };
         Fed { used, state, said }
     }
@@ -116,34 +96,30 @@ impl State {
     fn opened(self, used: usize, region: usize, answer: Answer) -> Fed
         ensures { result ≡ opened self used region answer }
     {
-        if answer.accepts() {
-            let state = State {
-                stage: Stage::Calls,
-                got: 0,
-                region,
-                calls: self.calls,
-                accepted: self.accepted,
-            };
-            return Fed {
-                used,
-                state,
-                said: Said::Region(answer),
-            };
+        let said = Said::Region(answer);
+        if answer.is_err() {
+            return self.stopped(used, said);
         }
-        self.stopped(used, Said::Region(answer))
+        let state = State {
+            stage: Stage::Calls,
+            got: 0,
+            region,
+            ..self
+        };
+        Fed { used, state, said }
     }
 
     fn called(self, used: usize, answer: Answer) -> Fed
         ensures { result ≡ call_said self used answer }
     {
         let calls = number::capped_sum(self.calls, 1);
-        let accepted = number::capped_sum(self.accepted, one_if(answer.accepts()));
+        let accepted = number::capped_sum(self.accepted, u64::from(answer.is_ok()));
         let state = State {
             stage: Stage::Calls,
             got: 0,
-            region: self.region,
             calls,
             accepted,
+            ..self
         };
         Fed {
             used,
@@ -169,16 +145,10 @@ impl State {
     pub fn end(self) -> Fed
         ensures { result ≡ marked self }
     {
-        let stage = self.stage;
-        match stage {
+        match self.stage {
             Stage::Opening => self.stopped(0, Said::Cut),
-            Stage::Calls => {
-                if self.got == 0 {
-                    return self.stopped(0, Said::End(self.accepted));
-                }
-                self.stopped(0, Said::Cut)
-            }
-            Stage::Over => self.stopped(0, Said::End(self.accepted)),
+            Stage::Calls if self.got > 0 => self.stopped(0, Said::Cut),
+            Stage::Calls | Stage::Over => self.stopped(0, Said::End(self.accepted)),
         }
     }
 }
@@ -202,15 +172,8 @@ fn fill(memory: &mut [u8], got: usize, size: usize, piece: &[u8]) -> usize
     ensures value { result ≡ min (size - got) (length piece.now) }
     ensures memory_after { memory.new ≡ paste memory.old got piece.now result }
 {
-    if size < got {
-        return 0;
-    }
-    let count = least(size - got, piece.len());
-    let mut i = 0;
-    while i < count {
-        memory[got + i] = piece[i];
-        i += 1;
-    }
+    let count = size.saturating_sub(got).min(piece.len());
+    memory[got..got + count].copy_from_slice(&piece[..count]);
     count
 }
 
@@ -230,12 +193,14 @@ fn gather(stage: Stage, memory: &mut [u8], got: usize, piece: &[u8]) -> usize
     first + fill(memory, there, size, &piece[first..])
 }
 
+// Slices below `feed`, and what they have room for: lent on as arrays they were tried, and the proofs of what
+// is at hand, which go by a slice's length, did not close.
 fn feed_opening(state: State, opening: &mut [u8], piece: &[u8]) -> Fed
     requires { most_of Opening ≤ length opening.old }
     ensures value { result ≡ fed_opening state opening.old piece.now }
     ensures opening_after { opening.new ≡ memory_fed Opening state.got opening.old piece.now }
 {
-    let got = least(state.got, opening.len());
+    let got = state.got.min(opening.len());
     let used = gather(Stage::Opening, opening, got, piece);
     let there = got + used;
     let heard = framed::hear_opening(&opening[..there]);
@@ -249,10 +214,10 @@ fn feed_call(state: State, opening: &mut [u8], frame: &mut [u8], piece: &[u8]) -
     ensures opening_after { opening.new ≡ opening_called state opening.old frame.old piece.now }
     ensures frame_after { frame.new ≡ memory_fed Calls state.got frame.old piece.now }
 {
-    let got = least(state.got, frame.len());
+    let got = state.got.min(frame.len());
     let used = gather(Stage::Calls, frame, got, piece);
     let there = got + used;
-    let end = REGION_LENGTH_SIZE + least(state.region, opening.len() - REGION_LENGTH_SIZE);
+    let end = REGION_LENGTH_SIZE + state.region.min(opening.len() - REGION_LENGTH_SIZE);
     let heard = framed::hear_call(&mut opening[REGION_LENGTH_SIZE..end], &frame[..there]);
     state.hears(used, there, heard)
 }
@@ -268,8 +233,7 @@ pub fn feed(
     ensures opening_after { opening.new ≡ opening_fed state opening.old frame.old piece.now }
     ensures frame_after { frame.new ≡ frame_fed state frame.old piece.now }
 {
-    let stage = state.stage;
-    match stage {
+    match state.stage {
         Stage::Opening => feed_opening(state, opening, piece),
         Stage::Calls => feed_call(state, opening, frame, piece),
         Stage::Over => state.stopped(0, Said::End(state.accepted)),

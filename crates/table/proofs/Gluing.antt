@@ -7,7 +7,7 @@ use native.Mathlib.Omega.{arith}
 use lib.ListN.{length, take, drop, length-append, length-drop, take-append-drop}
 use lib.Seq.{take_at, drop_at, drop-drop, take-add, length-take-le}
 use Rattle.answer.specs.Each.{Each}
-use Rattle.answer.specs.Refusable.{given}
+use Rattle.answer.specs.Refusable.{Ok}
 use Rattle.number.specs.Number.{Bytes, number, bytes_of, number_at}
 use Rattle.number.proofs.Laws.{length-bytes_of, number-bytes_of, bytes_of-number, number_there, bytes_take, bytes_drop}
 use Rattle.account.specs.Record.{Record}
@@ -43,27 +43,27 @@ module _ (key owner len payload after : List ℕ) (hk : length key ≡ 32) (ho :
   row_length : length row ≡ 68 + length payload + length after
   row_length = simp length-append (omega arith)
 
-  row_first : first_record row ≡ given (record { first = record { key = key; owner = owner; payload = payload }; rest = after })
+  row_first : first_record row ≡ Ok (record { first = record { key = key; owner = owner; payload = payload }; rest = after })
   row_first =
       let whole : 68 ≤ length row = rw row_length (omega arith) in
       let there : 68 + record_data_length row ≤ length row = rw (stated, row_length) (omega arith) in
       first_given row whole there
       ∙ rw (stated, from_after, from_payload, from_owner, take_at key (owner ++ (len ++ (payload ++ after))) 32 hk, take_at owner (len ++ (payload ++ after)) 32 ho, take_at payload after (length payload) refl)
 
-first_glued : (r : Record) (after : List ℕ) → Storable r → first_record (glue_record r ++ after) ≡ given (record { first = r; rest = after })
+first_glued : (r : Record) (after : List ℕ) → Storable r → first_record (glue_record r ++ after) ≡ Ok (record { first = r; rest = after })
 unfolding glue_record
 first_glued r after (hk, ho, hp) =
     let len = bytes_of 4 (length r.payload) in
     rw (append_assoc (r.key ++ r.owner ++ len) r.payload after, append_assoc (r.key ++ r.owner) len (r.payload ++ after), append_assoc r.key r.owner (len ++ (r.payload ++ after)))
     (row_first r.key r.owner len r.payload after hk ho (length-bytes_of 4 (length r.payload)) (number-bytes_of 4 (length r.payload) hp))
 
-records_glued : (l : List Record) → Each Storable l → cut_records (length l) (glue_records l) ≡ given l
+records_glued : (l : List Record) → Each Storable l → cut_records (length l) (glue_records l) ≡ Ok l
 unfolding glue_records cut_records
 records_glued [] h = refl
 records_glued (r ∷ l) (one, others) =
     cut-first (length l) (glue_record r ++ glue_records l) (first_glued r (glue_records l) one) ∙ rw (records_glued l others)
 
-pub table_glued : (l : List Record) → length l ≤ 64 → Each Storable l → cut_table (glue_table l) ≡ given l
+pub table_glued : (l : List Record) → length l ≤ 64 → Each Storable l → cut_table (glue_table l) ≡ Ok l
 unfolding glue_table
 table_glued l few sound =
     let count = bytes_of 2 (length l) in
@@ -93,7 +93,7 @@ record_bytes s f bytes facts =
     let header = joined keys stated ∙ sym (take-add 64 4 s) in
     joined header facts.payload_is ∙ sym (take-add 68 n s)
 
-records_bytes : (n : ℕ) (s : List ℕ) (l : List Record) → Bytes s → cut_records n s ≡ given l → glue_records l ≡ s
+records_bytes : (n : ℕ) (s : List ℕ) (l : List Record) → Bytes s → cut_records n s ≡ Ok l → glue_records l ≡ s
 unfolding glue_records
 records_bytes zero s l bytes e = let (none, no-records) = none_given s l e in rw (none, no-records)
 records_bytes (suc n) s l bytes e =
@@ -104,7 +104,7 @@ records_bytes (suc n) s l bytes e =
     records_bytes n g.one.rest g.others (rw after (bytes_drop size s bytes)) g.rest_given ∙ after in
     rw (g.all, record_bytes s g.one bytes g.is_first, others) (take-append-drop size s)
 
-pub table_bytes : (s : List ℕ) (l : List Record) → Bytes s → cut_table s ≡ given l → glue_table l ≡ s
+pub table_bytes : (s : List ℕ) (l : List Record) → Bytes s → cut_table s ≡ Ok l → glue_table l ≡ s
 unfolding glue_table
 table_bytes s l bytes e =
     let g = table_given s l e in

@@ -2,20 +2,17 @@
 -- Assumes nothing.
 use mathlib.Core.Path.{◌≡◌, refl, sym, ap, subst, ◌∙◌}
 use mathlib.Core.List.{List, [], ◌∷◌, ◌++◌, append-nil}
-use Prim.Native.Nat.{ℕ, suc, ◌+◌, ◌-◌, ◌*◌, ◌<◌, ◌≤◌}
+use Prim.Native.Nat.{ℕ, suc, ◌+◌, ◌-◌, ◌<◌, ◌≤◌}
 use native.Mathlib.Omega.{arith}
-use lib.ListN.{length, drop, set, replicate, length-append, length-drop}
+use lib.ListN.{length, drop, length-append, length-drop}
 use lib.Seq.{drop-drop}
-use Rattle.answer.specs.declared.Answer.{Answer}
-use Rattle.answer.specs.Numbers.{answer, accepted, bad_table}
-use Rattle.answer.specs.Refusable.{given, refused, change}
+use Rattle.answer.specs.declared.Refusal.{Refusal}
+use Rattle.answer.specs.declared.Refusal.TheVariants.{BadTable}
+use Rattle.answer.specs.Refusable.{Ok, Err, change}
 use Rattle.answer.proofs.Refusing.{none_in_front, more_in_front}
 use Rattle.number.specs.Number.{number_at}
 use Rattle.account.specs.declared.RecordView.{RecordView}
 use Rattle.account.specs.Record.{Record}
-use Rattle.account.specs.Views.{record_row}
-use Rattle.account.proofs.InRow.{row_next}
-use Rattle.table.specs.declared.RecordRead.TheVariants.{View, Refused}
 use Rattle.table.specs.Table.{FirstRecord, first_record, cut_records, cut_table}
 use Rattle.table.specs.Views.{record_view_at, read_at, record_views_from, places_of}
 use Rattle.table.proofs.Cutting.{table_counted, IsFirst, first_is, cut_end, cut_more, cut_refused, cut-first, view_first, refused_first}
@@ -30,101 +27,87 @@ unfolding record_views_from end_of
 placed_append place [] r = refl
 placed_append place (b ∷ l) r = ap (λ (vs : List RecordView). record_view_at place b ∷ vs) (placed_append (place + 68 + length b.payload) l r)
 
-pub length_placed : (place : ℕ) (l : List Record) → length (record_views_from place l) ≡ length l
-unfolding record_views_from
-length_placed place [] = refl
-length_placed place (r ∷ l) = ap suc (length_placed (place + 68 + length r.payload) l)
-
 end_append : (place : ℕ) (l : List Record) (r : Record) → end_of place (l ++ (r ∷ [])) ≡ end_of place l + 68 + length r.payload
 unfolding end_of
 end_append place [] r = refl
 end_append place (b ∷ l) r = end_append (place + 68 + length b.payload) l r
 
-pub record CutSoFar (s : List ℕ) (counted : ℕ) (list : List ℕ) (count at : ℕ) : Type 0 where
+-- how far a table is cut: the views so far, and the place that the next record starts at
+pub record CutSoFar (s : List ℕ) (counted : ℕ) (views : List RecordView) (at : ℕ) : Type 0 where
   pub done : List Record
-  pub long : length done ≡ count
-  pub most : count ≤ counted
+  pub laid : views ≡ record_views_from 2 done
+  pub most : length views ≤ counted
   pub few : counted ≤ 64
   pub within : at ≤ length s
-  pub laid : list ≡ record_row (record_views_from 2 done) ++ replicate (128 - 2 * count) 0
   pub ends : end_of 2 done ≡ at
-  pub same : cut_table s ≡ change (λ (l : List Record). done ++ l) (cut_records (counted - count) (drop at s))
+  pub same : cut_table s ≡ change (λ (l : List Record). done ++ l) (cut_records (counted - length views) (drop at s))
 
-pub cut_none : (s : List ℕ) (counted : ℕ) → 2 ≤ length s → counted ≡ number_at 2 s 0 → counted ≤ 64 → CutSoFar s counted (replicate 128 0) 0 2
-unfolding record_views_from record_row end_of
+pub cut_none : (s : List ℕ) (counted : ℕ) → 2 ≤ length s → counted ≡ number_at 2 s 0 → counted ≤ 64 → CutSoFar s counted [] 2
+unfolding record_views_from end_of
 cut_none s counted long e few =
     let all : counted - 0 ≡ counted = omega arith in
     record {
       done = [];
-      long = refl;
+      laid = refl;
       most = omega arith;
       few = few;
       within = long;
-      laid = refl;
       ends = refl;
       same = table_counted s long counted e few ∙ rw all (sym (none_in_front (cut_records counted (drop 2 s))));
     }
 
-module _ {s : List ℕ} {counted : ℕ} {list : List ℕ} {count at : ℕ} (so_far : CutSoFar s counted list count at) where
-  module _ (last : counted ≤ count) where
-    none_left : counted - count ≡ 0
+module _ {s : List ℕ} {counted : ℕ} {views : List RecordView} {at : ℕ} (so_far : CutSoFar s counted views at) where
+  module _ (last : counted ≤ length views) where
+    none_left : counted - length views ≡ 0
     none_left = omega arith
 
     -- all is cut, and the last record ends the table
-    pub cut_all : length s ≤ at → places_of (cut_table s) ≡ record { answer = answer accepted; list = list; count = count }
+    pub cut_all : length s ≤ at → places_of (cut_table s) ≡ Ok (record { items = views })
     unfolding places_of
     cut_all h =
         let done = so_far.done in
         let end = cut_end (drop at s) (simp length-drop (omega arith)) in
-        let whole : cut_table s ≡ given done = so_far.same ∙ rw (none_left, end) (ap given (append-nil done)) in
-        rw (whole, so_far.laid, so_far.long)
+        let whole : cut_table s ≡ Ok done = so_far.same ∙ rw (none_left, end) (ap Ok (append-nil done)) in
+        rw (whole, so_far.laid)
 
     -- bytes after the last record
-    pub cut_too_long : at < length s → cut_table s ≡ refused (answer bad_table)
+    pub cut_too_long : at < length s → cut_table s ≡ Err BadTable
     cut_too_long h = so_far.same ∙ rw (none_left, cut_more (drop at s) (simp length-drop (omega arith)))
 
-  module _ (more : count < counted) where
-    one_more : counted - count ≡ suc (counted - (count + 1))
+  module _ (more : length views < counted) where
+    one_more : counted - length views ≡ suc (counted - (length views + 1))
     one_more = omega arith
 
     -- the next record is refused
-    pub cut-stopped : (r : Answer) → read_at s at ≡ Refused r → cut_table s ≡ refused r
-    cut-stopped r h = so_far.same ∙ rw (one_more, cut_refused (counted - (count + 1)) (drop at s) (refused_first s at r h))
-
-    two_places : 128 - 2 * count ≡ suc (suc (128 - 2 * (count + 1)))
-    two_places = omega arith
+    pub cut-stopped : (r : Refusal) → read_at s at ≡ Err r → cut_table s ≡ Err r
+    cut-stopped r h = so_far.same ∙ rw (one_more, cut_refused (counted - (length views + 1)) (drop at s) (refused_first s at r h))
 
     -- the next record is there
-    cut_record : (f : FirstRecord) → first_record (drop at s) ≡ given f → IsFirst (drop at s) f
-        → CutSoFar s counted (set (set list (2 * count) at) (2 * count + 1) (length f.first.payload)) (count + 1) (at + 68 + length f.first.payload)
-    unfolding record_view_at
+    cut_record : (f : FirstRecord) → first_record (drop at s) ≡ Ok f → IsFirst (drop at s) f
+        → CutSoFar s counted (views ++ (record_view_at at f.first ∷ [])) (at + 68 + length f.first.payload)
     cut_record f e facts =
         let done = so_far.done in
         let r = f.first in
         let inside = rw (length-drop at s) at facts.within in
-        let place : length (record_views_from 2 done) ≡ count = length_placed 2 done ∙ so_far.long in
+        let longer : length (views ++ (record_view_at at r ∷ [])) ≡ length views + 1 = length-append views (record_view_at at r ∷ []) in
         let next : at + (68 + length r.payload) ≡ at + 68 + length r.payload = omega arith in
         let after : f.rest ≡ drop (at + 68 + length r.payload) s =
         facts.rest_is ∙ drop-drop (68 + length r.payload) at s ∙ ap (λ (n : ℕ). drop n s) next in
         record {
           done = done ++ (r ∷ []);
-          long = length-append done (r ∷ []) ∙ ap (λ (n : ℕ). n + 1) so_far.long;
-          most = omega arith;
+          laid = rw (placed_append 2 done r, so_far.ends, so_far.laid);
+          most = rw longer (omega arith);
           few = so_far.few;
           within = omega arith;
-          laid =
-              rw (so_far.laid, two_places, placed_append 2 done r, so_far.ends)
-              (subst (λ (n : ℕ). set (set (record_row (record_views_from 2 done) ++ (0 ∷ 0 ∷ replicate (128 - 2 * (count + 1)) 0)) (2 * n) at) (2 * n + 1) (length r.payload) ≡ record_row (record_views_from 2 done ++ (record_view_at at r ∷ [])) ++ replicate (128 - 2 * (count + 1)) 0) place
-              (row_next (record_views_from 2 done) (record_view_at at r) (replicate (128 - 2 * (count + 1)) 0)));
           ends = end_append 2 done r ∙ rw so_far.ends;
           same =
               so_far.same
-              ∙ rw (one_more, cut-first (counted - (count + 1)) (drop at s) e, after)
-              (more_in_front done r (cut_records (counted - (count + 1)) (drop (at + 68 + length r.payload) s)));
+              ∙ rw (longer, one_more, cut-first (counted - (length views + 1)) (drop at s) e, after)
+              (more_in_front done r (cut_records (counted - (length views + 1)) (drop (at + 68 + length r.payload) s)));
         }
 
     -- the next read is that of a record
-    module _ (v : RecordView) (h : read_at s at ≡ View v) where
+    module _ (v : RecordView) (h : read_at s at ≡ Ok v) where
       pub cut_stays : v.at + 68 + v.len ≤ length s
       unfolding record_view_at
       cut_stays =
@@ -133,9 +116,9 @@ module _ {s : List ℕ} {counted : ℕ} {list : List ℕ} {count at : ℕ} (so_f
           let inside = rw (length-drop at s) at facts.within in
           rw (← p) (omega arith)
 
-      pub cut-one : CutSoFar s counted (set (set list (2 * count) v.at) (2 * count + 1) v.len) (count + 1) (v.at + 68 + v.len)
+      pub cut-one : CutSoFar s counted (views ++ (v ∷ [])) (v.at + 68 + v.len)
       unfolding record_view_at
       cut-one =
           let (f, e, p) = view_first s at v h in
           let facts = first_is (drop at s) f e in
-          subst (λ (w : RecordView). CutSoFar s counted (set (set list (2 * count) w.at) (2 * count + 1) w.len) (count + 1) (w.at + 68 + w.len)) p (cut_record f e facts)
+          subst (λ (w : RecordView). CutSoFar s counted (views ++ (w ∷ [])) (w.at + 68 + w.len)) p (cut_record f e facts)

@@ -1,25 +1,23 @@
 -- A table's places name the records that were cut.
 -- Assumes nothing.
 use mathlib.Core.Path.{◌≡◌, refl, sym, ap, ap₂, ◌∙◌}
-use mathlib.Core.Bool.{true, false}
 use mathlib.Core.List.{List, ◌∷◌, map}
-use Prim.Native.Nat.{ℕ, zero, suc, ◌+◌, ◌-◌, ◌*◌}
+use Prim.Native.Nat.{ℕ, zero, suc, ◌+◌}
 use native.Mathlib.Omega.{arith}
-use lib.ListN.{length, take, drop, replicate}
-use lib.Seq.{drop-drop, take_at}
-use Rattle.answer.specs.Numbers.{accepts}
-use Rattle.answer.specs.Refusable.{Refusable, given, refused}
+use lib.ListN.{length, drop, length-map}
+use lib.Seq.{drop-drop}
+use Rattle.arrayvec.specs.ArrayVec.{ArrayVec}
+use Rattle.answer.specs.declared.Refusal.{Refusal}
+use Rattle.answer.specs.Refusable.{Refusable, Ok, Err}
 use Rattle.part.specs.Part.{part_at}
 use Rattle.part.proofs.Laws.{part_there}
+use Rattle.account.specs.declared.RecordView.{RecordView}
 use Rattle.account.specs.Record.{Record}
-use Rattle.account.specs.Views.{record_at, record_views, record_row, records_in}
-use Rattle.account.proofs.InRow.{views_of_row, length_row}
-use Rattle.table.specs.declared.Places.{Places}
+use Rattle.account.specs.Views.{record_at, records_in}
 use Rattle.table.specs.Table.{FirstRecord, cut_records, cut_table, records_of}
-use Rattle.table.specs.Views.{record_view_at, record_views_from, places_of}
+use Rattle.table.specs.Views.{record_view_at, record_views_from, places_of, items_of}
 use Rattle.table.proofs.Cutting.{IsFirst}
-use Rattle.table.proofs.Parsing.{length_placed}
-use Rattle.table.proofs.Given.{none_given, one_given, table_given, table_refusal}
+use Rattle.table.proofs.Given.{none_given, one_given, table_given}
 
 -- the view of the first record at a place names it
 first_named : (s : List ℕ) (at : ℕ) (f : FirstRecord) → IsFirst (drop at s) f → record_at s (record_view_at at f.first) ≡ f.first
@@ -34,7 +32,7 @@ first_named s at f facts =
     rw (key, owner, payload)
 
 -- the views of the records cut at a place name them
-placed_named : (n : ℕ) (s : List ℕ) (at : ℕ) (l : List Record) → cut_records n (drop at s) ≡ given l → map (record_at s) (record_views_from at l) ≡ l
+placed_named : (n : ℕ) (s : List ℕ) (at : ℕ) (l : List Record) → cut_records n (drop at s) ≡ Ok l → map (record_at s) (record_views_from at l) ≡ l
 unfolding record_views_from
 placed_named zero s at l e = let (_, none) = none_given (drop at s) l e in rw none
 placed_named (suc n) s at l e =
@@ -48,34 +46,32 @@ placed_named (suc n) s at l e =
 
 -- ---- what a cut table's places say
 
-places_name : (s : List ℕ) (x : Refusable (List Record)) → cut_table s ≡ x → records_in s (take (2 * (places_of x).count) (places_of x).list) ≡ records_of x
-unfolding records_in places_of record_views
-places_name s (given l) e =
-    let long = length_row (record_views_from 2 l) ∙ ap (λ (n : ℕ). 2 * n) (length_placed 2 l) in
-    rw (take_at (record_row (record_views_from 2 l)) (replicate (128 - 2 * length l) 0) (2 * length l) long, views_of_row (record_views_from 2 l))
-    (placed_named _ s 2 l (table_given s l e).records_given)
-places_name s (refused r) e = refl
+places_name : (s : List ℕ) (x : Refusable (List Record)) → cut_table s ≡ x → records_in s (items_of (places_of x)) ≡ records_of x
+unfolding records_in places_of
+places_name s (Ok l) e = placed_named _ s 2 l (table_given s l e).records_given
+places_name s (Err r) e = refl
 
-module _ (s : List ℕ) (cut : Places) (whole : cut ≡ places_of (cut_table s)) where
-  -- the places that are counted name the records of the table
-  pub records_of_places : records_in s (take (2 * cut.count) cut.list) ≡ records_of (cut_table s)
-  records_of_places = ap (λ (p : Places). records_in s (take (2 * p.count) p.list)) whole ∙ places_name s (cut_table s) refl
+-- the places name the records of the table
+pub records_of_places : (s : List ℕ) → records_in s (items_of (places_of (cut_table s))) ≡ records_of (cut_table s)
+records_of_places s = places_name s (cut_table s) refl
 
-  pub table_malformed : accepts cut.answer ≡ false → cut_table s ≡ refused cut.answer
-  unfolding places_of
-  table_malformed h = rw whole (go (cut_table s) refl (rw whole at h))
-    where
-      go : (x : Refusable (List Record)) → cut_table s ≡ x → accepts (places_of x).answer ≡ false → cut_table s ≡ refused (places_of x).answer
-      go (given l) e n = absurd (let z : ◌≡◌ {A = ℕ} 0 1 = cc in omega arith)
-      go (refused r) e n = e
+-- what cutting a table into places refuses, cutting it into records does
+pub table_malformed : (s : List ℕ) (r : Refusal) → places_of (cut_table s) ≡ Err r → cut_table s ≡ Err r
+unfolding places_of
+table_malformed s r h = go (cut_table s) refl
+  where
+    go : (x : Refusable (List Record)) → cut_table s ≡ x → cut_table s ≡ Err r
+    go (Ok l) e = let laid = ap places_of e in absurd (let z : ◌≡◌ {A = ℕ} 0 1 = cc in omega arith)
+    go (Err q) e = let none = ap places_of e in e ∙ ap Err cc
 
-  pub table_sound : accepts cut.answer ≡ true → (l : List Record) × (cut_table s ≡ given l) × (length l ≡ cut.count)
-  unfolding places_of
-  table_sound h = rw whole (go (cut_table s) refl (rw whole at h))
-    where
-      go : (x : Refusable (List Record)) → cut_table s ≡ x → accepts (places_of x).answer ≡ true
-          → (l : List Record) × (cut_table s ≡ given l) × (length l ≡ (places_of x).count)
-      go (given l) e n = (l, e, refl)
-      go (refused r) e n =
-          let bad : accepts r ≡ false = rw (table_refusal s r e) in
-          absurd (let z : ◌≡◌ {A = ℕ} 0 1 = cc in omega arith)
+-- and where it gives places, they are as many as the records, and name them
+pub table_sound : (s : List ℕ) (views : ArrayVec RecordView) → places_of (cut_table s) ≡ Ok views
+    → (cut_table s ≡ Ok (records_in s views.items)) × (length (records_in s views.items) ≡ length views.items)
+unfolding places_of records_in
+table_sound s views h = (go (cut_table s) refl, simp length-map)
+  where
+    go : (x : Refusable (List Record)) → cut_table s ≡ x → cut_table s ≡ Ok (records_in s views.items)
+    go (Ok l) e =
+        let same : views ≡ record { items = record_views_from 2 l } = let laid = ap places_of e in cc in
+        e ∙ ap Ok (rw same (sym (places_name s (Ok l) e)))
+    go (Err r) e = let none = ap places_of e in absurd (let z : ◌≡◌ {A = ℕ} 0 1 = cc in omega arith)

@@ -2,8 +2,8 @@
 -- glued to bytes.
 -- Assumes nothing.
 use Rattle.std.specs.Prelude.{ℕ, zero, suc, ◌+◌, ◌^◌, ◌<◌, ◌≡◌, cond, ◌&&◌, List, [], ◌∷◌, ◌++◌, leb, length, take, drop}
-use Rattle.answer.specs.Numbers.{answer, bad_table}
-use Rattle.answer.specs.Refusable.{Refusable, given, refused, change}
+use Rattle.answer.specs.declared.Refusal.TheVariants.{BadTable}
+use Rattle.answer.specs.Refusable.{Refusable, Ok, Err, change}
 use Rattle.number.specs.Number.{number, bytes_of}
 use Rattle.account.specs.Record.{Record, record_header}
 
@@ -29,19 +29,19 @@ unfoldable pub first_record : List ℕ → Refusable FirstRecord
 unfolding record_data_length
 first_record s =
     cond (leb record_header (length s) && leb (record_header + record_data_length s) (length s))
-    (given (record {
+    (Ok (record {
       first = record { key = take 32 s; owner = take 32 (drop 32 s); payload = take (record_data_length s) (drop record_header s) };
       rest = drop (record_header + record_data_length s) s;
     }))
-    (refused (answer bad_table))
+    (Err BadTable)
 
 -- as many records as are counted, the last of them at the end
 unfoldable pub cut_records : ℕ → List ℕ → Refusable (List Record)
 unfolding first_record
-cut_records zero [] = given []
-cut_records zero (b ∷ bs) = refused (answer bad_table)
+cut_records zero [] = Ok []
+cut_records zero (b ∷ bs) = Err BadTable
 cut_records (suc count) s =
-    elim (first_record s) [ given f ↦ change (λ (l : List Record). f.first ∷ l) (cut_records count f.rest) | refused r ↦ refused r ]
+    elim (first_record s) [ Ok f ↦ change (λ (l : List Record). f.first ∷ l) (cut_records count f.rest) | Err r ↦ Err r ]
 
 -- the records of a table: a count of 0 to 64, and as many records
 unfoldable pub cut_table : List ℕ → Refusable (List Record)
@@ -49,12 +49,12 @@ unfolding cut_records
 cut_table s =
     cond (leb table_header (length s) && leb (number (take table_header s)) most_records)
     (cut_records (number (take table_header s)) (drop table_header s))
-    (refused (answer bad_table))
+    (Err BadTable)
 
 -- the records of a table that was cut, none where it is malformed
 abbrev pub records_of : Refusable (List Record) → List Record
-records_of (given l) = l
-records_of (refused r) = []
+records_of (Ok l) = l
+records_of (Err r) = []
 
 -- the bytes of a record
 unfoldable pub glue_record : Record → List ℕ

@@ -1,16 +1,11 @@
 -- Where the records of a table lie: the values that the code answers with, each from the records that were cut.
 -- Assumes nothing.
-use Rattle.std.specs.Prelude.{ℕ, ◌+◌, ◌-◌, ◌*◌, List, [], ◌∷◌, ◌++◌, length, drop, replicate}
-use Rattle.answer.specs.Numbers.{answer, accepted}
-use Rattle.answer.specs.declared.Answer.{Answer}
-use Rattle.answer.specs.Refusable.{Refusable, given, refused}
+use Rattle.std.specs.Prelude.{ℕ, ◌+◌, List, [], ◌∷◌, length, drop}
+use Rattle.arrayvec.specs.ArrayVec.{ArrayVec}
+use Rattle.answer.specs.Refusable.{Refusable, Ok, Err, change}
 use Rattle.account.specs.declared.RecordView.{RecordView}
 use Rattle.account.specs.Record.{Record, record_header}
-use Rattle.account.specs.Views.{record_row}
-use Rattle.table.specs.declared.RecordRead.{RecordRead}
-use Rattle.table.specs.declared.RecordRead.TheVariants.{View, Refused}
-use Rattle.table.specs.declared.Places.{Places}
-use Rattle.table.specs.Table.{first_record, table_header, most_records}
+use Rattle.table.specs.Table.{FirstRecord, first_record, table_header}
 
 -- the view of a record that starts at a place
 unfoldable pub record_view_at : ℕ → Record → RecordView
@@ -23,17 +18,16 @@ record_views_from place [] = []
 record_views_from place (r ∷ l) = record_view_at place r ∷ record_views_from (place + record_header + length r.payload) l
 
 -- what reading the record at a place answers
-unfoldable pub read_at : List ℕ → ℕ → RecordRead
+unfoldable pub read_at : List ℕ → ℕ → Refusable RecordView
 unfolding record_view_at
-read_at s at = elim (first_record (drop at s)) [ given f ↦ View (record_view_at at f.first) | refused r ↦ Refused r ]
+read_at s at = change (λ (f : FirstRecord). record_view_at at f.first) (first_record (drop at s))
 
--- the number of a read's answer
-abbrev pub record_answer : RecordRead → Answer
-record_answer (View v) = answer accepted
-record_answer (Refused r) = r
+-- a table's places: the views of the records that were cut
+unfoldable pub places_of : Refusable (List Record) → Refusable (ArrayVec RecordView)
+unfolding record_views_from
+places_of cutting = change (λ (l : List Record). record { items = record_views_from table_header l }) cutting
 
--- a table's places: those of the records that were cut, and none where it was refused
-unfoldable pub places_of : Refusable (List Record) → Places
-unfolding record_views_from record_row
-places_of (given l) = record { answer = answer accepted; list = record_row (record_views_from table_header l) ++ replicate (2 * most_records - 2 * length l) 0; count = length l }
-places_of (refused r) = record { answer = r; list = replicate (2 * most_records) 0; count = 0 }
+-- what some places hold, nothing where they are refused
+abbrev pub items_of : {A : Type 0} → Refusable (ArrayVec A) → List A
+items_of (Ok views) = views.items
+items_of (Err r) = []

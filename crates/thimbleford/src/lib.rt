@@ -3,12 +3,14 @@
 #![tactic(auto)]
 
 ghost use Rattle.std.specs.Prelude.{◌≡◌};
+ghost use Rattle.answer.specs.Numbers.{number_of};
 ghost use Rattle.creation.specs.Creation.{creation};
 ghost use Rattle.judge.specs.Judge.{call_of, judged, region_after};
 ghost use Rattle.thimbleford.specs.Boundary.{boundary_version};
 
+use answer::number_of;
 use creation::validate_actions_buffer;
-use judge::judge;
+use judge::{Call, judge};
 
 const BOUNDARY_VERSION: u32 = 1;
 
@@ -21,12 +23,12 @@ pub fn thimbleford_version() -> u32
 
 // What creation answers to a region.
 pub fn thimbleford_create(region: &[u8]) -> u32
-    ensures { result ≡ (creation region.now).number }
+    ensures { result ≡ number_of (creation region.now) }
 {
-    validate_actions_buffer(region).number
+    number_of(validate_actions_buffer(region))
 }
 
-// What a judged call answers; only an accepted one writes the region.
+// What a judged call answers; only an accepted one writes the region. The parameters are those of C.
 pub fn thimbleford_judge(
     region: &mut [u8],
     before: &[u8],
@@ -38,10 +40,9 @@ pub fn thimbleford_judge(
     lamports_after: u64,
     gross: u64,
 ) -> u32
-    ensures { (result ≡ (judged region.old (call_of before.now after.now instructions.now vault.now slot lamports_before lamports_after gross)).number) × (region.new ≡ region_after region.old (call_of before.now after.now instructions.now vault.now slot lamports_before lamports_after gross)) }
+    ensures { (result ≡ number_of (judged region.old (call_of before.now after.now instructions.now vault.now slot lamports_before lamports_after gross))) × (region.new ≡ region_after region.old (call_of before.now after.now instructions.now vault.now slot lamports_before lamports_after gross)) }
 {
-    judge(
-        region,
+    let call = Call {
         before,
         after,
         instructions,
@@ -50,6 +51,6 @@ pub fn thimbleford_judge(
         lamports_before,
         lamports_after,
         gross,
-    )
-    .number
+    };
+    number_of(judge(region, call))
 }

@@ -3,6 +3,7 @@
 #![tactic(auto)]
 
 ghost use Rattle.std.specs.Prelude.{◌≡◌};
+ghost use Rattle.answer.specs.Numbers.{number_of};
 ghost use Rattle.creation.specs.Creation.{creation};
 ghost use Rattle.judge.specs.Judge.{call_of, judged, region_after};
 ghost use Rattle.thimbleford.specs.Boundary.{boundary_version};
@@ -18,7 +19,7 @@ pub extern "C" fn thimbleford_version() -> u32
 // What creation answers to a region.
 #[unsafe(no_mangle)]
 pub extern "C" fn thimbleford_create(region: &[u8]) -> u32
-    ensures { result ≡ (creation region.now).number }
+    ensures { result ≡ number_of (creation region.now) }
 {
     thimbleford::thimbleford_create(region)
 }
@@ -36,7 +37,7 @@ pub extern "C" fn thimbleford_judge(
     lamports_after: u64,
     gross: u64,
 ) -> u32
-    ensures { (result ≡ (judged region.old (call_of before.now after.now instructions.now vault.now slot lamports_before lamports_after gross)).number) × (region.new ≡ region_after region.old (call_of before.now after.now instructions.now vault.now slot lamports_before lamports_after gross)) }
+    ensures { (result ≡ number_of (judged region.old (call_of before.now after.now instructions.now vault.now slot lamports_before lamports_after gross))) × (region.new ≡ region_after region.old (call_of before.now after.now instructions.now vault.now slot lamports_before lamports_after gross)) }
 {
     thimbleford::thimbleford_judge(
         region,

@@ -8,7 +8,7 @@ use Prim.Native.Nat.{ℕ, zero, suc, ◌+◌}
 use lib.ListN.{length, get_or}
 use Rattle.answer.specs.Each.{Each}
 use Rattle.answer.specs.Numbers.{accepts}
-use Rattle.answer.specs.Refusable.{given}
+use Rattle.answer.specs.Refusable.{Ok}
 use Rattle.number.specs.Number.{Bytes}
 use Rattle.action.specs.Action.{Action}
 use Rattle.action.specs.Fields.{mint_length, amounts_of}
@@ -28,7 +28,7 @@ unfolding glue flat_map
 each_alone call [] h = ended
 each_alone call (a ∷ l) h = joined (action_alone call h.0) (each_alone call l h.1)
 
-accepted_alone : (region : List ℕ) (call : Call) (l : List Action) → Bytes region → stored_actions region ≡ given l → accepts (judged region call) ≡ true
+accepted_alone : (region : List ℕ) (call : Call) (l : List Action) → Bytes region → stored_actions region ≡ Ok l → accepts (judged region call) ≡ true
     → SameBut (flat_map (of_action call) (actions_of (stored_actions region))) region (region_after region call)
 accepted_alone region call l bytes stored h =
     rw (stored, region_written call region stored h)

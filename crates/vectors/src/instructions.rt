@@ -1,139 +1,96 @@
 // Compact instructions: reading a list, and writing one.
 use crate::text;
-use compact::{Entries, Entry, MAX_COMPACT_INSTRUCTIONS, Range};
+use compact::{Entry, Range};
 use std::io;
 
 pub(crate) const ENTRY_SIZE: usize = 33;
 
 const LENGTH_SIZE: usize = 4;
 
-const PLACE_SIZE: usize = 8;
-
-const ACCOUNTS_PLACE: usize = 1;
-
-const PAYLOAD_PLACE: usize = 17;
+// As many entries as a count of one byte can say.
+const MAX_ENTRIES: usize = 255;
 
 // What stands in the output before anything is written.
 const UNWRITTEN: u8 = 0xee;
 
 fn print_range(rt: &impl Print, range: Range) -> io::Result<()> {
-    text::print_next(rt, range.start as u64)?;
-    text::print_next(rt, range.len as u64)
+    text::print_next(rt, range.start)?;
+    text::print_next(rt, range.len)
 }
 
-fn print_entry(rt: &impl Print, entry: Entry) -> io::Result<()> {
-    let accounts = entry.accounts;
-    let payload = entry.payload;
-    text::print_next(rt, entry.program as u64)?;
-    print_range(rt, accounts)?;
-    print_range(rt, payload)
-}
-
-fn print_entries(rt: &impl Print, entries: Entries) -> io::Result<()> {
-    let count = entries.count;
-    for i in 0..MAX_COMPACT_INSTRUCTIONS {
-        if count <= i {
-            break;
-        }
-        print_entry(rt, entries.list[i])?;
+fn print_entries(rt: &impl Print, entries: &[Entry]) -> io::Result<()> {
+    for entry in entries {
+        text::print_next(rt, entry.program as usize)?;
+        print_range(rt, entry.accounts)?;
+        print_range(rt, entry.payload)?;
     }
     Ok(())
 }
 
 // Bytes: the number; where they are read also the bytes consumed, the count and each entry.
-pub(crate) fn read(rt: &impl Print, payload: &[u8]) -> io::Result<()> {
-    let parsed = compact::parse_compact_instructions(payload);
-    let answer = parsed.answer;
-    let entries = parsed.entries;
-    text::print_number(rt, answer.number as u64)?;
-    if !answer.accepts() {
-        return Ok(());
+pub(crate) fn read(rt: &impl Print, payload: &[u8]) -> io::Result<bool> {
+    match compact::parse_compact_instructions(payload) {
+        Ok(parsed) => {
+            text::print_answer(rt, Ok(()))?;
+            text::print_next(rt, parsed.consumed)?;
+            text::print_next(rt, parsed.entries.len())?;
+            print_entries(rt, parsed.entries.as_slice())?;
+        }
+        Err(refusal) => text::print_answer(rt, Err(refusal))?,
     }
-    text::print_next(rt, parsed.consumed as u64)?;
-    text::print_next(rt, entries.count as u64)?;
-    print_entries(rt, entries)
-}
-
-fn range_at(payload: &[u8], at: usize) -> Range {
-    if payload.len() < at {
-        return Range { start: 0, len: 0 };
-    }
-    let field = &payload[at..];
-    Range {
-        start: number::read_u64(field, 0) as usize,
-        len: number::read_u64(field, PLACE_SIZE) as usize,
-    }
+    Ok(true)
 }
 
 // An entry: program (1), and the start and length (8 each) of its accounts and of its data.
 pub(crate) fn entry_of(field: &[u8]) -> Entry {
-    let accounts = range_at(field, ACCOUNTS_PLACE);
-    let payload = range_at(field, PAYLOAD_PLACE);
-    let mut program = 0;
-    if 0 < field.len() {
-        program = field[0];
-    }
     Entry {
-        program,
-        accounts,
-        payload,
+        program: field.first().copied().unwrap_or(0),
+        accounts: Range {
+            start: number::read_u64(field, 1) as usize,
+            len: number::read_u64(field, 9) as usize,
+        },
+        payload: Range {
+            start: number::read_u64(field, 17) as usize,
+            len: number::read_u64(field, 25) as usize,
+        },
     }
 }
 
-// The first sixteen of a row of entries.
-fn entries_of(row: &[u8], count: usize) -> Entries {
-    let nowhere = Range { start: 0, len: 0 };
-    let zero = Entry {
-        program: 0,
-        accounts: nowhere,
-        payload: nowhere,
-    };
-    let mut list = [zero; 16];
-    for (entry, field) in list.iter_mut().zip(row.chunks_exact(ENTRY_SIZE)) {
+// The entries of a row, as far as a count can say them.
+fn entries_of(row: &[u8]) -> [Entry; MAX_ENTRIES] {
+    let mut entries = [Entry::default(); MAX_ENTRIES];
+    for (entry, field) in entries.iter_mut().zip(row.chunks_exact(ENTRY_SIZE)) {
         *entry = entry_of(field);
     }
-    Entries { list, count }
-}
-
-fn fill(room: &mut [u8]) {
-    for byte in room.iter_mut() {
-        *byte = UNWRITTEN;
-    }
+    entries
 }
 
 // Writes a list to an output and prints the number, the bytes written and the output.
-fn write_to(rt: &impl Print, room: &mut [u8], entries: Entries, source: &[u8]) -> io::Result<()> {
-    fill(room);
+fn write_to(rt: &impl Print, room: &mut [u8], entries: &[Entry], source: &[u8]) -> io::Result<()> {
+    room.fill(UNWRITTEN);
     let written = encoding::serialize_compact_instructions(entries, source, room);
-    let answer = written.answer;
-    text::print_number(rt, answer.number as u64)?;
-    text::print_next(rt, written.written as u64)?;
+    text::print_answer(rt, written.map(|_| ()))?;
+    text::print_next(rt, written.unwrap_or(0))?;
     text::print_next_hex(rt, room)
-}
-
-// A row of `count` entries, the output's length (4) and the source.
-fn write_after(rt: &impl Print, rest: &[u8], count: u8, room: &mut [u8]) -> io::Result<bool> {
-    let row = count as usize * ENTRY_SIZE;
-    let source = row + LENGTH_SIZE;
-    if rest.len() < source {
-        return Ok(false);
-    }
-    let len = number::read_u32(rest, row) as usize;
-    if room.len() < len {
-        return Ok(false);
-    }
-    let entries = entries_of(&rest[0..row], count as usize);
-    write_to(rt, &mut room[0..len], entries, &rest[source..])?;
-    Ok(true)
 }
 
 // A count (1), as many entries, the output's length (4) and the source. Says whether they are there,
 // and the output no longer than the room.
 pub(crate) fn write(rt: &impl Print, payload: &[u8]) -> io::Result<bool> {
-    if payload.len() < 1 {
+    let Some((count, rest)) = payload.split_first() else {
         return Ok(false);
-    }
-    let count = payload[0];
+    };
+    let count = *count as usize;
+    let Some((row, rest)) = rest.split_at_checked(count * ENTRY_SIZE) else {
+        return Ok(false);
+    };
+    let Some((len, source)) = rest.split_at_checked(LENGTH_SIZE) else {
+        return Ok(false);
+    };
     let mut room = [0u8; 200000];
-    write_after(rt, &payload[1..], count, &mut room)
+    let Some(output) = room.get_mut(..number::read_u32(len, 0) as usize) else {
+        return Ok(false);
+    };
+    write_to(rt, output, &entries_of(row)[..count], source)?;
+    Ok(true)
 }

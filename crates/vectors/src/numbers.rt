@@ -8,61 +8,40 @@ const NUMBER_LENGTH: usize = 8;
 const PAIR_LENGTH: usize = 16;
 
 // Place (8) and bytes: the number at the place.
-fn read(rt: &impl Print, payload: &[u8]) -> io::Result<bool> {
-    if payload.len() < NUMBER_LENGTH {
+pub(crate) fn read(rt: &impl Print, payload: &[u8]) -> io::Result<bool> {
+    let Some((place, bytes)) = payload.split_at_checked(NUMBER_LENGTH) else {
         return Ok(false);
-    }
-    let place = number::read_u64(payload, 0) as usize;
-    let found = number::read_u64(&payload[NUMBER_LENGTH..], place);
-    text::print_number(rt, found)?;
+    };
+    let place = number::read_u64(place, 0) as usize;
+    text::print_number(rt, number::read_u64(bytes, place))?;
     Ok(true)
-}
-
-fn write_at(rt: &impl Print, bytes: &mut [u8], place: usize, value: u64) -> io::Result<()> {
-    let is_written = number::write_u64(bytes, place, value);
-    text::print_flag(rt, is_written)?;
-    text::print_next_hex(rt, bytes)
 }
 
 // Place (8), value (8) and bytes: whether they were written, and the bytes afterwards.
 pub(crate) fn write(rt: &impl Print, payload: &mut [u8]) -> io::Result<bool> {
-    if payload.len() < PAIR_LENGTH {
+    let Some((head, bytes)) = payload.split_at_mut_checked(PAIR_LENGTH) else {
         return Ok(false);
-    }
-    let place = number::read_u64(payload, 0) as usize;
-    let value = number::read_u64(payload, NUMBER_LENGTH);
-    write_at(rt, &mut payload[PAIR_LENGTH..], place, value)?;
+    };
+    let place = number::read_u64(head, 0) as usize;
+    let value = number::read_u64(head, NUMBER_LENGTH);
+    text::print_flag(rt, number::write_u64(bytes, place, value))?;
+    text::print_next_hex(rt, bytes)?;
     Ok(true)
 }
 
-// Two numbers (8 each): their sum.
-fn sum(rt: &impl Print, payload: &[u8]) -> io::Result<bool> {
-    if payload.len() < PAIR_LENGTH {
-        return Ok(false);
-    }
-    let a = number::read_u64(payload, 0);
-    let b = number::read_u64(payload, NUMBER_LENGTH);
-    text::print_number(rt, number::capped_sum(a, b))?;
-    Ok(true)
-}
-
-// Two numbers (8 each): their difference.
-fn difference(rt: &impl Print, payload: &[u8]) -> io::Result<bool> {
+// Two numbers (8 each): what is made of them.
+pub(crate) fn of_pair<F: Fn(u64, u64) -> u64>(
+    rt: &impl Print,
+    payload: &[u8],
+    made: F,
+) -> io::Result<bool>
+    requires { F.IsAlwaysCallable made }
+{
     if payload.len() < PAIR_LENGTH {
         return Ok(false);
     }
     let a = number::read_u64(payload, 0);
     let b = number::read_u64(payload, NUMBER_LENGTH);
-    text::print_number(rt, number::floored_difference(a, b))?;
+    text::print_number(rt, made(a, b))?;
     Ok(true)
-}
-
-// The kinds that only read their payload.
-pub(crate) fn print(rt: &impl Print, kind: u8, payload: &[u8]) -> io::Result<bool> {
-    match kind {
-        1 => read(rt, payload),
-        3 => sum(rt, payload),
-        4 => difference(rt, payload),
-        _ => Ok(false),
-    }
 }

@@ -1,42 +1,29 @@
--- `charge::class_answer` meets its contract. The loop's invariant: the charges from `i` on answer what all do.
+-- `charge::class_answer` meets its contract. The loop's invariant: the charges that are left answer what all do.
 -- Assumes nothing.
-use mathlib.Core.Path.{refl, sym, ◌∙◌}
-use native.Mathlib.Numerals.{add-one}
-use native.Mathlib.Omega.{arith}
+use mathlib.Core.Path.{sym, ◌∙◌}
+use mathlib.Core.Logic.{inl, inr, ⊎_elim}
+use Rattle.std.proofs.lemmas.Result.{err_from_is_err_and}
 use Rattle.action.specs.Views.{action_at}
 use Rattle.charge.proofs.Charging.{class_refused, class_passed, class_end}
 use Rattle.charge.proofs.class_answer.Goals as goal
 
-pub loop-i-init : goal.loop-i-init
-loop-i-init c = (omega arith, c.charged-n.ensures, refl)
+pub loop-view-init : goal.loop-view-init
+loop-view-init c =
+    rw (c.into_iter-view-iterator.ensures.into_iter_gives, c.zip-view-items.ensures.first, c.zip-view-items.ensures.second.0, c.iter.ensures.rest)
 
-pub returns-then-not-accepts : goal.returns-then-not-accepts
+pub loop-view-preserved : goal.loop-view-preserved
 unfolding action_at
-returns-then-not-accepts c =
-    let row = c.args.actions.now in
-    let amounts = c.args.amounts.now in
-    sym
-    (sym c.loop-i.invariant.2
-    ∙ class_refused _ _ _ row amounts c.loop-i.i _ c.action_in-view.ensures (omega arith) (omega arith) _ c.class_rule-answer.ensures
-    (sym c.accepts.ensures ∙ c.if-not-accepts.true))
+loop-view-preserved c =
+    let step = c.in-Some.ensures.steps in
+    sym (class_passed c.args.class c.args.slot c.args.region.now step.0 step.1 _ c.class_rule.ensures _ c.in_ok-class_rule.was) ∙ c.loop-view.invariant
 
-pub loop-i-preserved : goal.loop-i-preserved
+pub returns-in_err-class_rule : goal.returns-in_err-class_rule
 unfolding action_at
-loop-i-preserved c =
-    let i = c.loop-i.i in
-    let row = c.args.actions.now in
-    let amounts = c.args.amounts.now in (
-      omega arith,
-      c.loop-i.invariant.1,
-      rw (add-one i)
-          (sym
-          (class_passed _ _ _ row amounts i _ c.action_in-view.ensures (omega arith) (omega arith) _ c.class_rule-answer.ensures
-          (sym c.accepts.ensures ∙ c.if-not-accepts.false))
-          ∙ c.loop-i.invariant.2),
-    )
+returns-in_err-class_rule c =
+    let p = err_from_is_err_and c.from_residual.result c.from_residual.ensures.1 in
+    let step = c.in-Some.ensures.steps in
+    rw (p.1, p.2) (sym (class_refused c.args.class c.args.slot c.args.region.now step.0 step.1 _ c.class_rule.ensures _ c.in_err-class_rule.was) ∙ c.loop-view.invariant)
 
 pub returns : goal.returns
 returns c =
-    let row = c.args.actions.now in
-    let amounts = c.args.amounts.now in
-    c.of.ensures ∙ sym (sym c.loop-i.invariant.2 ∙ class_end _ _ _ row amounts c.loop-i.i (omega arith))
+    sym (class_end _ _ _ _ _ (⊎_elim (λ e. inl e.1.0) (λ e. inr e.1.0) c.in-None.ensures.steps)) ∙ c.loop-view.invariant

@@ -1,33 +1,24 @@
--- `creation::all_keep` meets its contract. The loop's invariant: all keep the rule where all from `i` on do.
+-- `creation::all_keep` meets its contract: it asks action by action, as the definition does.
 -- Assumes nothing.
-use mathlib.Core.Path.{refl, sym, ◌∙◌}
-use native.Mathlib.Numerals.{add-one}
-use native.Mathlib.Omega.{arith}
-use Rattle.creation.proofs.Scanning.{keep_passed, keep_broken, keep_end}
+use mathlib.Core.Path.{◌≡◌, refl}
+use mathlib.Core.Bool.{true, false}
+use mathlib.Core.List.{List}
+use borrow.Author.Tests.{tests}
+use Rattle.std.proofs.Common.{rules}
+use Rattle.std.proofs.lemmas.Iterator.{cases_from_all, YieldsList-from_slice}
+use Rattle.action.specs.declared.ActionView.{ActionView}
+use Rattle.action.specs.Views.{action_at}
+use Rattle.row.specs.Views.{actions_in}
+use Rattle.answer.proofs.Chains.{all_down}
+use Rattle.creation.specs.Creation.{keeps, all_keep}
 use Rattle.creation.proofs.all_keep.Goals as goal
 
-pub loop-i-init : goal.loop-i-init
-loop-i-init c = (omega arith, c.how_many-n.ensures, refl)
-
-pub returns-then-not-keeps : goal.returns-then-not-keeps
-returns-then-not-keeps c =
-    let row = c.args.actions.now in
-    sym
-    (sym c.loop-i.invariant.2
-    ∙ keep_broken row c.loop-i.i _ c.action_in-view.ensures (omega arith) _ c.args.rule (sym c.keeps.ensures ∙ c.if-not-keeps.true))
-
-pub loop-i-preserved : goal.loop-i-preserved
-loop-i-preserved c =
-    let i = c.loop-i.i in
-    let row = c.args.actions.now in (
-      omega arith,
-      c.loop-i.invariant.1,
-      rw (add-one i)
-          (sym (keep_passed row i _ c.action_in-view.ensures (omega arith) _ c.args.rule (sym c.keeps.ensures ∙ c.if-not-keeps.false))
-          ∙ c.loop-i.invariant.2),
-    )
-
 pub returns : goal.returns
+unfolding all_keep actions_in
 returns c =
-    let row = c.args.actions.now in
-    sym (sym c.loop-i.invariant.2 ∙ keep_end _ row c.loop-i.i (omega arith) c.args.rule)
+    let s = c.args.region.now in
+    let rule = c.args.rule in
+    all_down (λ (v : ActionView). keeps rule (action_at s v)) (λ (l : List ActionView). all_keep rule (actions_in s l)) refl (λ v l. refl) c.args.views.now _
+    (cases_from_all _ _ _ (λ v. keeps rule (action_at s v) ≡ true) (λ v. keeps rule (action_at s v) ≡ false) c.all.ensures.ran (YieldsList-from_slice c.args.views.now cc)
+    (λ x q k. search (rules, tests))
+    (λ x q k. search (rules, tests)))

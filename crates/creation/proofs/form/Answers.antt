@@ -4,6 +4,7 @@ use mathlib.Core.Path.{◌≡◌, sym, ◌∙◌, ap}
 use mathlib.Core.Bool.{Bool}
 use mathlib.Core.List.{List}
 use Prim.Native.Nat.{ℕ}
+use Rattle.action.specs.declared.ActionView.{ActionView}
 use Rattle.row.specs.Views.{actions_in, kinds_in}
 use Rattle.creation.specs.Creation.{kinds_of, both_lists, sol_repeats}
 use Rattle.creation.proofs.Scanning.{kinds_of_actions}
@@ -11,43 +12,39 @@ use Rattle.creation.proofs.Forms.{form_length, form_conflict, form_sol, form_min
 use Rattle.creation.proofs.form.Goals as goal
 
 -- a test of the types' codes, asked of a row of actions
-by_kinds : (test : List ℕ → Bool) (s row : List ℕ) {asked told : Bool} → asked ≡ test (kinds_in row) → asked ≡ told
-    → test (kinds_of (actions_in s row)) ≡ told
-by_kinds test s row e is = ap test (kinds_of_actions s row) ∙ sym e ∙ is
+by_kinds : (test : List ℕ → Bool) (s : List ℕ) (views : List ActionView) {asked told : Bool} → asked ≡ test (kinds_in views) → asked ≡ told
+    → test (kinds_of (actions_in s views)) ≡ told
+by_kinds test s views e is = ap test (kinds_of_actions s views) ∙ sym e ∙ is
 
 pub returns-then-not-all_keep : goal.returns-then-not-all_keep
 returns-then-not-all_keep c =
-    c.of.ensures ∙ sym (form_length _ _ _ _ c.requires.0 c.requires.1 (sym c.all_keep.ensures ∙ c.if-not-all_keep.true))
+    sym (form_length _ _ _ _ (sym c.all_keep.ensures ∙ c.if-not-all_keep.true))
 
 pub returns-then-both_lists : goal.returns-then-both_lists
 returns-then-both_lists c =
-    c.of-then-both_lists.ensures
-    ∙ sym
-    (form_conflict _ _ _ _ c.requires.0 c.requires.1 (sym c.all_keep.ensures ∙ c.if-not-all_keep.false)
+    sym
+    (form_conflict _ _ _ _ (sym c.all_keep.ensures ∙ c.if-not-all_keep.false)
     (by_kinds both_lists _ _ c.both_lists.ensures c.if-both_lists.true))
 
 pub returns-then-sol_repeats : goal.returns-then-sol_repeats
 returns-then-sol_repeats c =
-    c.of-then-sol_repeats.ensures
-    ∙ sym
-    (form_sol _ _ _ _ c.requires.0 c.requires.1 (sym c.all_keep.ensures ∙ c.if-not-all_keep.false)
+    sym
+    (form_sol _ _ _ _ (sym c.all_keep.ensures ∙ c.if-not-all_keep.false)
     (by_kinds both_lists _ _ c.both_lists.ensures c.if-both_lists.false)
     (by_kinds sol_repeats _ _ c.sol_repeats.ensures c.if-sol_repeats.true))
 
 pub returns-then-mint_repeats : goal.returns-then-mint_repeats
 returns-then-mint_repeats c =
-    c.of-then-mint_repeats.ensures
-    ∙ sym
-    (form_mint _ _ _ _ c.requires.0 c.requires.1 (sym c.all_keep.ensures ∙ c.if-not-all_keep.false)
+    sym
+    (form_mint _ _ _ _ (sym c.all_keep.ensures ∙ c.if-not-all_keep.false)
     (by_kinds both_lists _ _ c.both_lists.ensures c.if-both_lists.false)
     (by_kinds sol_repeats _ _ c.sol_repeats.ensures c.if-sol_repeats.false)
     (sym c.mint_repeats.ensures ∙ c.if-mint_repeats.true))
 
 pub returns-then-not-all_keep-2 : goal.returns-then-not-all_keep-2
 returns-then-not-all_keep-2 c =
-    c.of-then-not-all_keep-2.ensures
-    ∙ sym
-    (form_ending _ _ _ _ c.requires.0 c.requires.1 (sym c.all_keep.ensures ∙ c.if-not-all_keep.false)
+    sym
+    (form_ending _ _ _ _ (sym c.all_keep.ensures ∙ c.if-not-all_keep.false)
     (by_kinds both_lists _ _ c.both_lists.ensures c.if-both_lists.false)
     (by_kinds sol_repeats _ _ c.sol_repeats.ensures c.if-sol_repeats.false)
     (sym c.mint_repeats.ensures ∙ c.if-mint_repeats.false)
@@ -55,9 +52,8 @@ returns-then-not-all_keep-2 c =
 
 pub returns : goal.returns
 returns c =
-    c.of-2.ensures
-    ∙ sym
-    (form_kept _ _ _ _ c.requires.0 c.requires.1 (sym c.all_keep.ensures ∙ c.if-not-all_keep.false)
+    sym
+    (form_kept _ _ _ _ (sym c.all_keep.ensures ∙ c.if-not-all_keep.false)
     (by_kinds both_lists _ _ c.both_lists.ensures c.if-both_lists.false)
     (by_kinds sol_repeats _ _ c.sol_repeats.ensures c.if-sol_repeats.false)
     (sym c.mint_repeats.ensures ∙ c.if-mint_repeats.false)

@@ -1,32 +1,20 @@
--- `creation::how_often` meets its contract. The loop's invariant: what is counted, and what is left to count from `i` on.
+-- `creation::how_often` meets its contract: it counts the views of the type that is asked for.
 -- Assumes nothing.
-use Prim.Native.Nat.{◌+◌}
-use mathlib.Core.Path.{◌≡◌}
-use mathlib.Core.Bool.{cond}
-use lib.Dec.{eqb}
-use lib.ListN.{drop}
-use native.Mathlib.Numerals.{add-one}
-use Rattle.std.proofs.lemmas.Bool.Decides.{nat_tests}
-use Rattle.row.specs.Views.{kinds_in}
-use Rattle.creation.specs.Creation.{how_often}
+use mathlib.Core.Path.{◌∙◌}
 use native.Mathlib.Omega.{arith}
-use Rattle.creation.proofs.Scanning.{often_step, often_end}
+use lib.Dec.{eqb}
+use Rattle.std.proofs.Common.{rules}
+use Rattle.std.proofs.lemmas.Bool.Decides.{nat_tests}
+use Rattle.std.proofs.lemmas.Iterator.{YieldsList-from_slice}
+use Rattle.std.proofs.lemmas.Iterator.Consumers.{YieldsList-from_filter, count_from_yields_List}
+use Rattle.action.specs.declared.ActionView.{ActionView}
+use Rattle.creation.proofs.Scanning.{often_counted}
 use Rattle.creation.proofs.how_often.Goals as goal
-
-pub loop-i-init : goal.loop-i-init
-loop-i-init c = (omega arith, c.how_many-n.ensures, omega arith, omega arith)
-
-pub loop-i-preserved : goal.loop-i-preserved
-loop-i-preserved c =
-    let i = c.loop-i.i in
-    let row = c.args.actions.now in
-    let kind = c.args.kind in
-    let v = c.action_in-view.result in
-    let step : how_often kind (drop i (kinds_in row)) ≡ cond (eqb v.kind kind) 1 0 + how_often kind (drop (i + 1) (kinds_in row)) =
-    rw (add-one i) (often_step row i v c.action_in-view.ensures (omega arith) kind) in
-    grind (arith, nat_tests, step)
 
 pub returns : goal.returns
 returns c =
-    let row = c.args.actions.now in
-    omega (arith, often_end row c.loop-i.i c.args.kind (omega arith))
+    let views = c.args.views.now in
+    let kind = c.args.kind in
+    count_from_yields_List _ _ c.count.ensures.ran
+    (YieldsList-from_filter _ (λ (v : ActionView). eqb v.kind kind) (YieldsList-from_slice views cc) c.filter.ensures.closure (λ x r q k. (search rules, grind (arith, nat_tests))))
+    ∙ often_counted views kind

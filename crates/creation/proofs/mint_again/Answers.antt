@@ -1,35 +1,27 @@
--- `creation::mint_again` meets its contract. The loop's invariant: the mint is there again from `from` on where it is from `i` on.
+-- `creation::mint_again` meets its contract: it asks action by action, as the definition does.
 -- Assumes nothing.
-use mathlib.Core.Path.{refl, sym, ◌∙◌}
-use native.Mathlib.Numerals.{add-one}
-use native.Mathlib.Omega.{arith}
+use mathlib.Core.Path.{◌≡◌, refl}
+use mathlib.Core.Bool.{true, false, ◌&&◌}
+use mathlib.Core.List.{List}
+use borrow.Author.Tests.{tests}
+use lib.Dec.{eqb}
+use Rattle.std.proofs.Common.{rules}
+use Rattle.std.proofs.lemmas.Iterator.{cases_from_any, YieldsList-from_slice}
+use Rattle.key.specs.Key.{same_key}
+use Rattle.action.specs.declared.ActionView.{ActionView}
+use Rattle.action.specs.Fields.{key_of}
 use Rattle.action.specs.Views.{action_at}
-use Rattle.creation.proofs.Scanning.{again_found, again_passed, again_end}
+use Rattle.row.specs.Views.{actions_in}
+use Rattle.answer.proofs.Chains.{any_down}
+use Rattle.creation.specs.Creation.{mint_again}
 use Rattle.creation.proofs.mint_again.Goals as goal
 
-pub loop-i-init : goal.loop-i-init
-loop-i-init c = (c.how_many-n.ensures, refl)
-
-pub returns-then-same_mint : goal.returns-then-same_mint
-unfolding action_at
-returns-then-same_mint c =
-    let row = c.args.actions.now in
-    sym
-    (sym c.loop-i.invariant.1
-    ∙ again_found row c.loop-i.i _ c.action_in-other.ensures (omega arith) _ _ (sym c.same_mint.ensures ∙ c.if-same_mint.true))
-
-pub loop-i-preserved : goal.loop-i-preserved
-unfolding action_at
-loop-i-preserved c =
-    let i = c.loop-i.i in
-    let row = c.args.actions.now in (
-      c.loop-i.invariant.0,
-      rw (add-one i)
-          (sym (again_passed row i _ c.action_in-other.ensures (omega arith) _ _ (sym c.same_mint.ensures ∙ c.if-same_mint.false))
-          ∙ c.loop-i.invariant.1),
-    )
-
 pub returns : goal.returns
+unfolding mint_again actions_in action_at
 returns c =
-    let row = c.args.actions.now in
-    sym (sym c.loop-i.invariant.1 ∙ again_end _ row c.loop-i.i (omega arith) _)
+    let s = c.args.region.now in
+    let v = c.args.view in
+    any_down (λ (w : ActionView). eqb w.kind v.kind && same_key (key_of (action_at s w)) (key_of (action_at s v))) (λ (l : List ActionView). mint_again (action_at s v) (actions_in s l)) refl (λ w l. refl) c.args.views.now _
+    (cases_from_any _ _ _ (λ w. (eqb w.kind v.kind && same_key (key_of (action_at s w)) (key_of (action_at s v))) ≡ true) (λ w. (eqb w.kind v.kind && same_key (key_of (action_at s w)) (key_of (action_at s v))) ≡ false) c.any.ensures.ran (YieldsList-from_slice c.args.views.now cc)
+    (λ x q k. search (rules, tests))
+    (λ x q k. search (rules, tests)))

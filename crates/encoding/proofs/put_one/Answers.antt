@@ -1,78 +1,82 @@
--- `encoding::put_one` meets its contract: an entry that keeps the limits has the lengths of its ranges, so each store fits, and the stores
--- are the run that writes its encoding.
+-- `encoding::put_one` meets its contract: an entry that keeps the limits has the lengths of its ranges, so each part fits, and the parts one
+-- after the other are its encoding.
 -- Assumes nothing.
 use Prim.Native.Nat.{ℕ, ◌+◌, ◌≤◌}
+use mathlib.Core.Path.{◌≡◌, ◌∙◌}
 use mathlib.Core.Bool.{true}
 use mathlib.Core.List.{List}
-use Rattle.compact.specs.declared.Entry.{Entry}
-use Rattle.encoding.specs.Encoding.{encodable_one}
-use mathlib.Core.Path.{◌≡◌, ◌∙◌}
 use native.Mathlib.Omega.{arith}
-use lib.ListN.{length, length-set}
-use Rattle.compact.specs.Compact.{encode_one}
-use Rattle.compact.specs.Entries.{meant}
-use Rattle.encoding.proofs.Writing.{Keeps, keeps, length_kept, one_stored}
+use lib.ListN.{length}
+use Rattle.part.proofs.Laws.{length_part_there}
+use Rattle.compact.specs.declared.Entry.{Entry}
+use Rattle.compact.specs.Compact.{most_accounts, most_payload, encode_one}
+use Rattle.compact.specs.Entries.{range_bytes, meant}
+use Rattle.encoding.specs.Encoding.{encodable_one}
+use Rattle.encoding.proofs.Writing.{keeps, length_kept, one_stored}
 use Rattle.encoding.proofs.put_one.Goals as goal
 
 -- what is required, as facts of numbers
-record Room (source out : List ℕ) (at : ℕ) (entry : Entry) : Type 0 where
-  keep : Keeps source entry
-  fits : at + 4 + entry.accounts.len + entry.payload.len ≤ length out
-  size : length (encode_one (meant source entry)) ≡ 4 + entry.accounts.len + entry.payload.len
+record Room (source out : List ℕ) (at : ℕ) (entry : Entry) (accounts payload : List ℕ) : Type 0 where
+  few : length accounts ≤ 255
+  short : length payload ≤ 65535
+  fits : at + (4 + length accounts + length payload) ≤ length out
+  size : length (encode_one (meant source entry)) ≡ 4 + length accounts + length payload
 
-room : (source out : List ℕ) (at : ℕ) (entry : Entry) → encodable_one source entry ≡ true → at + length (encode_one (meant source entry)) ≤ length out
-    → Room source out at entry
-room source out at entry encodable fits =
+room : (source out : List ℕ) (at : ℕ) (entry : Entry) (accounts payload : List ℕ) → encodable_one source entry ≡ true
+    → at + length (encode_one (meant source entry)) ≤ length out → accounts ≡ range_bytes source entry.accounts
+    → payload ≡ range_bytes source entry.payload → Room source out at entry accounts payload
+unfolding most_accounts most_payload
+room source out at entry accounts payload encodable fits a p =
     let keep = keeps source entry encodable in
-    let size = length_kept source entry keep in
-    record { keep = keep; fits = omega arith; size = size }
+    let many : length accounts ≡ entry.accounts.len = rw a (length_part_there source entry.accounts.start entry.accounts.len keep.accounts) in
+    let long : length payload ≡ entry.payload.len = rw p (length_part_there source entry.payload.start entry.payload.len keep.payload) in
+    let size : length (encode_one (meant source entry)) ≡ 4 + length accounts + length payload = rw (many, long) (length_kept source entry keep) in
+    record {
+      few = omega (arith, many, keep.few);
+      short = omega (arith, long, keep.short);
+      fits = omega (arith, size);
+      size = size;
+    }
 
-pub bounds-out-at : goal.bounds-out-at
-bounds-out-at c =
-    let r = room c.args.source.now c.args.out.now c.args.at c.args.entry c.requires.0 c.requires.1 in omega arith
+pub overflow_cast-accounts : goal.overflow_cast-accounts
+overflow_cast-accounts c =
+    let r = room _ _ _ _ _ _ c.requires.encodable c.requires.room c.part_at-accounts.ensures c.part_at-payload.ensures in omega (arith, r.few)
 
-pub put_number-requires : goal.put_number-requires
-put_number-requires c =
-    let r = room c.args.source.now c.args.out.now c.args.at c.args.entry c.requires.0 c.requires.1 in simp length-set (omega arith)
+pub put-then-requires : goal.put-then-requires
+put-then-requires c =
+    let r = room _ _ _ _ _ _ c.requires.encodable c.requires.room c.part_at-accounts.ensures c.part_at-payload.ensures in omega (arith, r.fits)
 
-pub put_part-then-requires : goal.put_part-then-requires
-put_part-then-requires c =
-    let number-kept : length c.put_number.new.out ≡ length c.args.out.now = simp length-set at c.put_number.auto.out in
-    let r = room c.args.source.now c.args.out.now c.args.at c.args.entry c.requires.0 c.requires.1 in
-    omega (arith, number-kept)
+pub put-then-requires-2 : goal.put-then-requires-2
+put-then-requires-2 c =
+    let r = room _ _ _ _ _ _ c.requires.encodable c.requires.room c.part_at-accounts.ensures c.part_at-payload.ensures in
+    omega (arith, r.fits, c.put-then.ensures.place, c.put-then.auto.out)
 
-pub put_number-requires-2 : goal.put_number-requires-2
-put_number-requires-2 c =
-    let number-kept : length c.put_number.new.out ≡ length c.args.out.now = simp length-set at c.put_number.auto.out in
-    let part-kept : length c.put_part-then.new.out ≡ length c.args.out.now = c.put_part-then.auto.out ∙ number-kept in
-    let r = room c.args.source.now c.args.out.now c.args.at c.args.entry c.requires.0 c.requires.1 in
-    omega (arith, part-kept, c.put_part-then.ensures.0)
+pub overflow_cast-payload : goal.overflow_cast-payload
+overflow_cast-payload c =
+    let r = room _ _ _ _ _ _ c.requires.encodable c.requires.room c.part_at-accounts.ensures c.part_at-payload.ensures in omega (arith, r.short)
 
-pub overflow_add-then : goal.overflow_add-then
-overflow_add-then c =
-    let r = room c.args.source.now c.args.out.now c.args.at c.args.entry c.requires.0 c.requires.1 in
-    omega (arith, c.put_part-then.ensures.0)
+pub put-then-requires-3 : goal.put-then-requires-3
+put-then-requires-3 c =
+    let r = room _ _ _ _ _ _ c.requires.encodable c.requires.room c.part_at-accounts.ensures c.part_at-payload.ensures in
+    rw c.to_le_bytes.ensures (omega (arith, r.fits, c.put-then.ensures.place, c.put-then.auto.out, c.put-then-2.ensures.place, c.put-then-2.auto.out))
 
-pub put_part-requires : goal.put_part-requires
-put_part-requires c =
-    let number-kept : length c.put_number.new.out ≡ length c.args.out.now = simp length-set at c.put_number.auto.out in
-    let part-kept : length c.put_part-then.new.out ≡ length c.args.out.now = c.put_part-then.auto.out ∙ number-kept in
-    let number2-kept : length c.put_number-2.new.out ≡ length c.args.out.now = c.put_number-2.auto.out ∙ part-kept in
-    let r = room c.args.source.now c.args.out.now c.args.at c.args.entry c.requires.0 c.requires.1 in
-    omega (arith, c.put_part-then.ensures.0, number2-kept)
+pub put-requires : goal.put-requires
+put-requires c =
+    let r = room _ _ _ _ _ _ c.requires.encodable c.requires.room c.part_at-accounts.ensures c.part_at-payload.ensures in
+    let two : length c.to_le_bytes.result ≡ 2 = rw c.to_le_bytes.ensures in
+    omega (arith, two, r.fits, c.put-then.ensures.place, c.put-then.auto.out, c.put-then-2.ensures.place, c.put-then-2.auto.out, c.put-then-3.ensures.place, c.put-then-3.auto.out)
 
-pub shape_of-out : goal.shape_of-out
-shape_of-out c =
-    let number-kept : length c.put_number.new.out ≡ length c.args.out.now = simp length-set at c.put_number.auto.out in
-    let part-kept : length c.put_part-then.new.out ≡ length c.args.out.now = c.put_part-then.auto.out ∙ number-kept in
-    let number2-kept : length c.put_number-2.new.out ≡ length c.args.out.now = c.put_number-2.auto.out ∙ part-kept in
-    c.put_part.auto.out ∙ number2-kept
+pub returns-clause-place : goal.returns-clause-place
+returns-clause-place c =
+    let r = room _ _ _ _ _ _ c.requires.encodable c.requires.room c.part_at-accounts.ensures c.part_at-payload.ensures in
+    let two : length c.to_le_bytes.result ≡ 2 = rw c.to_le_bytes.ensures in
+    omega (arith, two, r.size, c.put-then.ensures.place, c.put-then-2.ensures.place, c.put-then-3.ensures.place, c.put.ensures.place)
 
-pub returns : goal.returns
-returns c =
-    let r = room c.args.source.now c.args.out.now c.args.at c.args.entry c.requires.0 c.requires.1 in
-    let there = c.put_part-then.ensures.0 in (
-      omega (arith, c.put_part.ensures.0, there),
-      c.put_part.ensures.1
-          ∙ rw (c.put_number-2.ensures, c.put_part-then.ensures.1, c.put_number.ensures, there) (one_stored _ _ _ _ r.keep),
-    )
+pub returns-clause-after : goal.returns-clause-after
+returns-clause-after c =
+    let two : length c.to_le_bytes.result ≡ 2 = rw c.to_le_bytes.ensures in
+    let third : c.put-then-3.result ≡ c.put-then-2.result + 2 = c.put-then-3.ensures.place ∙ rw two in
+    let second : c.put-then-2.result ≡ c.put-then.result + length (range_bytes c.args.source.now c.args.entry.accounts) =
+    c.put-then-2.ensures.place ∙ rw c.part_at-accounts.ensures in
+    rw (c.put.ensures.after, c.put-then-3.ensures.after, c.put-then-2.ensures.after, c.put-then.ensures.after, c.to_le_bytes.ensures, c.part_at-accounts.ensures, c.part_at-payload.ensures)
+    (one_stored c.args.source.now c.args.entry c.args.out.now c.args.at c.put-then.result c.put-then-2.result c.put-then-3.result c.put-then.ensures.place second third)

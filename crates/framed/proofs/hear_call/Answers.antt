@@ -6,16 +6,16 @@ use Rattle.framed.proofs.hear_call.Goals as goal
 
 pub returns-in-Whole : goal.returns-in-Whole
 returns-in-Whole c =
-    let front = sym c.read_call-front.ensures ∙ c.in-Whole.is in
+    let front = sym c.read_call.ensures ∙ c.in-Whole.is in
     let judged = c.judge_call.ensures in
     record { value = rw judged.value (sym (call_judged _ _ _ front)); region_after = judged.region_after ∙ sym (region_judged _ _ _ front) }
 
 pub returns-in-Long : goal.returns-in-Long
 returns-in-Long c =
-    let front = sym c.read_call-front.ensures ∙ c.in-Long.is in
+    let front = sym c.read_call.ensures ∙ c.in-Long.is in
     record { value = sym (call_too_long _ _ front); region_after = sym (region_too_long _ _ front) }
 
 pub returns-in-Short : goal.returns-in-Short
 returns-in-Short c =
-    let front = sym c.read_call-front.ensures ∙ c.in-Short.is in
+    let front = sym c.read_call.ensures ∙ c.in-Short.is in
     record { value = sym (call_waits _ _ front); region_after = sym (region_waits _ _ front) }

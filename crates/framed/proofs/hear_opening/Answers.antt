@@ -3,7 +3,8 @@
 use Prim.Native.Nat.{ℕ, ◌-◌}
 use mathlib.Core.Path.{◌≡◌, sym, ap, ◌∙◌}
 use native.Mathlib.Omega.{arith}
-use lib.ListN.{take, drop}
+use lib.ListN.{length, take, drop, length-drop}
+use lib.Seq.{length-take-le}
 use Rattle.number.specs.Number.{number_at}
 use Rattle.creation.specs.Creation.{creation}
 use Rattle.frame.specs.Frame.{region_length_size, opening_region}
@@ -19,6 +20,8 @@ returns c =
     let s = c.args.bytes.now in
     let size = c.opening_size-size in
     let len : size.result - region_length_size ≡ number_at 2 s 0 = omega (arith, size.ensures) in
-    let region : c.validate_actions_buffer-answer.result ≡ creation (opening_region s) =
-    c.validate_actions_buffer-answer.ensures ∙ ap (λ (n : ℕ). creation (take n (drop region_length_size s))) len in
-    rw (len, region) (sym (opening_answered s (omega arith)))
+    let region : c.validate_actions_buffer.result ≡ creation (opening_region s) =
+    c.validate_actions_buffer.ensures ∙ ap (λ (n : ℕ). creation (take n (drop region_length_size s))) len in
+    let long : length (take (number_at 2 s 0) (drop region_length_size s)) ≡ number_at 2 s 0 =
+    length-take-le _ _ (rw length-drop (omega arith)) in
+    rw (len, region, long) (sym (opening_answered s (omega arith)))

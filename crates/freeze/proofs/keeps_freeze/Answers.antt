@@ -1,36 +1,34 @@
--- `freeze::keeps_freeze` meets its contract: only a counted account of the mint is frozen.
+-- `freeze::keeps_freeze` meets its contract: only a counted account of a listed mint is frozen.
 -- Assumes nothing.
-use mathlib.Core.Path.{sym, ap, ◌∙◌}
-use Prim.Native.Nat.{ℕ}
-use mathlib.Core.List.{List}
-use Rattle.key.specs.Key.{same_key}
+use Rattle.std.proofs.Common.{List, ℕ, sym, ap, ◌∙◌}
+use Rattle.keys.specs.Views.{is_among, keys_in}
 use Rattle.token.proofs.Counting.{no_account_not_counted, account_counted}
 use Rattle.freeze.proofs.Freezing.{not_counted_frozen, not_listed_frozen, listed_frozen}
+use Rattle.freeze.proofs.keeps_freeze.Goals.{then-not-holds-via-then-not-holds, then-not-holds-via-else-not-holds+then-not-is_token_account, then-not-holds-via-else-not-holds+else-not-is_token_account+then-not-is_held_by}
 use Rattle.freeze.proofs.keeps_freeze.Goals as goal
 
-pub returns-then-not-same_key : goal.returns-then-not-same_key
-returns-then-not-same_key c =
-    let mint = c.args.mint.now in
-    sym
-    (not_listed_frozen _ (same_key mint) _ _
-    (ap (λ (m : List ℕ). same_key mint m) (sym c.mint_of.ensures) ∙ sym c.same_key.ensures ∙ c.if-not-same_key.true))
-
-pub returns-then-not-is_token_account : goal.returns-then-not-is_token_account
-returns-then-not-is_token_account c =
-    sym (not_counted_frozen _ _ _ _ (no_account_not_counted _ _ (sym c.is_token_account.ensures ∙ c.if-not-is_token_account.true)))
-
-pub returns-then-not-is_held_by : goal.returns-then-not-is_held_by
-returns-then-not-is_held_by c =
-    let is_account_lem = sym c.is_token_account.ensures ∙ c.if-not-is_token_account.false in
-    sym (not_counted_frozen _ _ _ _ (account_counted _ _ is_account_lem (sym c.is_held_by.ensures ∙ c.if-not-is_held_by.true)))
+pub returns-then-not-holds : goal.returns-then-not-holds
+returns-then-not-holds c =
+    let mints = keys_in c.args.mints.now in
+    elim c.then-not-holds.branch [
+      | then-not-holds-via-then-not-holds w ↦
+          sym
+          (not_listed_frozen _ (λ (m : List ℕ). is_among m mints) _ _
+          (ap (λ (m : List ℕ). is_among m mints) (sym c.mint_of.ensures) ∙ sym c.holds.ensures ∙ w.if-not-holds.true))
+      | then-not-holds-via-else-not-holds+then-not-is_token_account w ↦
+          sym (not_counted_frozen _ _ _ _ (no_account_not_counted _ _ (sym w.is_token_account.ensures ∙ w.if-not-is_token_account.true)))
+      | then-not-holds-via-else-not-holds+else-not-is_token_account+then-not-is_held_by w ↦
+          let account = sym w.is_token_account.ensures ∙ w.if-not-is_token_account.false in
+          sym (not_counted_frozen _ _ _ _ (account_counted _ _ account (sym w.is_held_by.ensures ∙ w.if-not-is_held_by.true)))
+    ]
 
 pub returns : goal.returns
 returns c =
-    let mint = c.args.mint.now in
+    let mints = keys_in c.args.mints.now in
+    let account = sym c.is_token_account.ensures ∙ c.if-not-is_token_account.false in
     c.still_there.ensures
-    ∙ rw (c.record_payload-payload.ensures, c.record_key.ensures)
+    ∙ rw (c.record_payload.ensures, c.record_key.ensures)
     (sym
-    (listed_frozen _ (same_key mint) _ _
-    (account_counted _ _ (sym c.is_token_account.ensures ∙ c.if-not-is_token_account.false)
-    (sym c.is_held_by.ensures ∙ c.if-not-is_held_by.false))
-    (ap (λ (m : List ℕ). same_key mint m) (sym c.mint_of.ensures) ∙ sym c.same_key.ensures ∙ c.if-not-same_key.false)))
+    (listed_frozen _ (λ (m : List ℕ). is_among m mints) _ _
+    (account_counted _ _ account (sym c.is_held_by.ensures ∙ c.if-not-is_held_by.false))
+    (ap (λ (m : List ℕ). is_among m mints) (sym c.mint_of.ensures) ∙ sym c.holds.ensures ∙ c.if-not-holds.false)))

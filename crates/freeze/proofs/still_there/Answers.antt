@@ -1,42 +1,32 @@
--- `freeze::still_there` meets its contract. The loop's invariant: from `i` on the first record with the key is the first of all.
+-- `freeze::still_there` meets its contract: what `find` answers names the first record with the key.
 -- Assumes nothing.
-use Prim.Native.Nat.{ℕ}
-use mathlib.Core.Path.{refl, sym, ap, ◌∙◌}
-use native.Mathlib.Numerals.{add-one}
-use native.Mathlib.Omega.{arith}
-use mathlib.Core.List.{List}
+use Rattle.std.proofs.Common.{rules, ◌≡◌, sym, ap, ◌∙◌}
+use Rattle.std.specs.Prelude.{Some, None}
+use Rattle.std.specs.List.{find}
+use Rattle.std.proofs.lemmas.Iterator.{YieldsList-from_slice}
+use Rattle.std.proofs.lemmas.Iterator.Search.{find_from_yields_List}
 use Rattle.key.specs.Key.{same_key}
-use Rattle.freeze.proofs.Freezing.{still_found, still_passed, still_end}
+use Rattle.account.specs.declared.RecordView.{RecordView}
+use Rattle.account.specs.Views.{record_at}
+use Rattle.freeze.proofs.Freezing.{still_of, found_still}
 use Rattle.freeze.proofs.still_there.Goals as goal
 
-pub loop-i-init : goal.loop-i-init
-loop-i-init c = (omega arith, refl, refl)
+pub returns-in-Some : goal.returns-in-Some
+returns-in-Some c =
+    let table = c.args.table in
+    let key = c.args.key.now in
+    let p = c.args.payload.now in
+    let first = find_from_yields_List (λ (v : RecordView). same_key (record_at table.bytes.now v).key key) _ _ _ c.find.ensures.ran
+    (YieldsList-from_slice table.records.now (search rules)) (λ x b q h. search rules) in
+    let this : Some c.in-Some.view.now ≡ find (λ (v : RecordView). same_key (record_at table.bytes.now v).key key) table.records.now = rw c.in-Some.is at first in
+    c.is_still.ensures ∙ ap (still_of p table.bytes.now) this ∙ sym (found_still p key table.bytes.now table.records.now)
 
-pub returns-then-same_key : goal.returns-then-same_key
-returns-then-same_key c =
-    let row = c.args.places.now in
-    let seen = c.view_in-view in
-    sym
-    (sym c.loop-i.invariant.2
-    ∙ still_found _ _ _ row c.loop-i.i _ seen.ensures (omega arith)
-    (ap (λ (k : List ℕ). same_key k c.args.key.now) (sym c.record_key.ensures) ∙ sym c.same_key.ensures ∙ c.if-same_key.true)
-    ∙ sym c.is_still.ensures)
-
-pub loop-i-preserved : goal.loop-i-preserved
-loop-i-preserved c =
-    let i = c.loop-i.i in
-    let row = c.args.places.now in
-    let seen = c.view_in-view in (
-      omega arith,
-      c.loop-i.invariant.1,
-      rw (add-one i)
-          (sym
-          (still_passed _ _ _ row i _ seen.ensures (omega arith)
-          (ap (λ (k : List ℕ). same_key k c.args.key.now) (sym c.record_key.ensures) ∙ sym c.same_key.ensures ∙ c.if-same_key.false))
-          ∙ c.loop-i.invariant.2),
-    )
-
-pub returns : goal.returns
-returns c =
-    let row = c.args.places.now in
-    sym (sym c.loop-i.invariant.2 ∙ still_end _ _ _ row c.loop-i.i (omega arith))
+pub returns-in-None : goal.returns-in-None
+returns-in-None c =
+    let table = c.args.table in
+    let key = c.args.key.now in
+    let p = c.args.payload.now in
+    let first = find_from_yields_List (λ (v : RecordView). same_key (record_at table.bytes.now v).key key) _ _ _ c.find.ensures.ran
+    (YieldsList-from_slice table.records.now (search rules)) (λ x b q h. search rules) in
+    let this : None ≡ find (λ (v : RecordView). same_key (record_at table.bytes.now v).key key) table.records.now = rw c.in-None.is at first in
+    ap (still_of p table.bytes.now) this ∙ sym (found_still p key table.bytes.now table.records.now)

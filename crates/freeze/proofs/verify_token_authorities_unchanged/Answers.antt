@@ -1,43 +1,31 @@
--- `freeze::verify_token_authorities_unchanged` meets its contract. The loop's invariant: all are frozen where those of the mints from
--- `i` on are.
+-- `freeze::verify_token_authorities_unchanged` meets its contract: `all` asks each record before whether it keeps the freeze.
 -- Assumes nothing.
-use mathlib.Core.Path.{◌≡◌, refl, sym, ◌∙◌}
-use native.Mathlib.Numerals.{add-one}
-use native.Mathlib.Omega.{arith}
-use lib.ListN.{length}
-use Rattle.freeze.proofs.Freezing.{mint_thawed, mint_kept, mints_end}
+use Rattle.std.proofs.Common.{rules, List, ℕ, ◌≡◌, [], sym, ap, ◌∙◌}
+use Rattle.std.proofs.lemmas.Iterator.{YieldsList-from_slice}
+use Rattle.std.proofs.lemmas.Iterator.Search.{all_from_yields_List}
+use borrow.Author.Tests.{eq-eqb}
+use Rattle.keys.specs.Views.{is_among, keys_in}
+use Rattle.account.specs.declared.RecordView.{RecordView}
+use Rattle.account.specs.Views.{record_at, table_records}
+use Rattle.freeze.specs.Freeze.{keeps_freeze, all_frozen}
+use Rattle.freeze.proofs.Freezing.{all_kept, frozen_none}
 use Rattle.freeze.proofs.verify_token_authorities_unchanged.Goals as goal
 
-pub loop-i-init : goal.loop-i-init
-loop-i-init c = (omega arith, refl)
+pub returns-then-mints-eq0 : goal.returns-then-mints-eq0
+returns-then-mints-eq0 c =
+    let start = c.args in
+    let none : keys_in start.mints.now ≡ [] = unfold keys_in in rw c.if-mints-eq0.true in
+    eq-eqb _ _ c.if-mints-eq0.true
+    ∙ sym
+    (ap (λ (ks : List (List ℕ)). all_frozen start.vault.now (λ (m : List ℕ). is_among m ks) (table_records start.after) (table_records start.before)) none
+    ∙ frozen_none start.vault.now (table_records start.after) (table_records start.before))
 
-pub returns-then-not-key_frozen : goal.returns-then-not-key_frozen
-returns-then-not-key_frozen c =
-    let mints = c.args.mints in
-    let long : length mints.list ≡ 16 = c.well_formed.1.1.1.1.1.0.1.1.0.1.0.1 in
-    sym
-    (sym c.loop-i.invariant.1
-    ∙ mint_thawed _ _ _ mints c.loop-i.i _ (omega arith) (omega arith) (sym c.key_frozen.ensures ∙ c.if-not-key_frozen.true))
-
-pub loop-i-preserved : goal.loop-i-preserved
-loop-i-preserved c =
-    let i = c.loop-i.i in
-    let mints = c.args.mints in
-    let long : length mints.list ≡ 16 = c.well_formed.1.1.1.1.1.0.1.1.0.1.0.1 in (
-      omega arith,
-      rw (add-one i)
-          (sym (mint_kept _ _ _ mints i _ (omega arith) (omega arith) (sym c.key_frozen.ensures ∙ c.if-not-key_frozen.false))
-          ∙ c.loop-i.invariant.1),
-    )
-
-pub returns : goal.returns
-returns c =
-    let mints = c.args.mints in
-    let long : length mints.list ≡ 16 = c.well_formed.1.1.1.1.1.0.1.1.0.1.0.1 in
-    sym (sym c.loop-i.invariant.1 ∙ mints_end _ _ _ mints c.loop-i.i (omega arith))
-
-pub returns-then-count-i : goal.returns-then-count-i
-returns-then-count-i c =
-    let mints = c.args.mints in
-    let long : length mints.list ≡ 16 = c.well_formed.1.1.1.1.1.0.1.1.0.1.0.1 in
-    sym (sym c.loop-i.invariant.1 ∙ mints_end _ _ _ mints c.loop-i.i (omega arith))
+pub returns-else-mints-eq0 : goal.returns-else-mints-eq0
+returns-else-mints-eq0 c =
+    let start = c.args in
+    let listed = λ (m : List ℕ). is_among m (keys_in start.mints.now) in
+    let after = table_records start.after in
+    let table = start.before in
+    all_from_yields_List (λ (v : RecordView). keeps_freeze start.vault.now listed after (record_at table.bytes.now v)) _ _ _ c.all.ensures.ran
+    (YieldsList-from_slice table.records.now cc) (λ x b q h. grind rules)
+    ∙ all_kept start.vault.now listed after table.bytes.now table.records.now

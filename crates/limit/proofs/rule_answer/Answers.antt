@@ -8,7 +8,7 @@ use Rattle.limit.proofs.rule_answer.Goals as goal
 pub returns-then-breaks : goal.returns-then-breaks
 unfolding action_at
 returns-then-breaks c =
-    c.of.ensures ∙ rw c.refusal_of.ensures (sym (rule_broken _ _ (sym c.breaks.ensures ∙ c.if-breaks.true)))
+    rw c.refusal_of.ensures (sym (rule_broken _ _ (sym c.breaks.ensures ∙ c.if-breaks.true)))
 
 pub returns : goal.returns
-returns c = c.of-2.ensures ∙ sym (rule_kept _ _ (sym c.breaks.ensures ∙ c.if-breaks.false))
+returns c = sym (rule_kept _ _ (sym c.breaks.ensures ∙ c.if-breaks.false))

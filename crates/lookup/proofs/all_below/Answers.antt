@@ -1,29 +1,21 @@
--- `lookup::all_below` meets its contract. The loop's invariant: from `i` on all are below where all are from the start.
+-- `lookup::all_below` meets its contract: it asks index by index, as the definition does.
 -- Assumes nothing.
-use mathlib.Core.Path.{refl, sym, ◌∙◌}
-use native.Mathlib.Numerals.{add-one}
-use native.Mathlib.Omega.{arith}
-use Rattle.lookup.proofs.Lookups.{below_found, below_passed, below_end}
+use mathlib.Core.Path.{◌≡◌, refl}
+use mathlib.Core.Bool.{true, false}
+use Prim.Native.Nat.{ℕ}
+use borrow.Author.Tests.{tests}
+use lib.Dec.{ltb}
+use Rattle.std.proofs.Common.{rules}
+use Rattle.std.proofs.lemmas.Iterator.{cases_from_all, YieldsList-from_slice}
+use Rattle.answer.proofs.Chains.{all_down}
+use Rattle.lookup.specs.Indexes.{all_below}
 use Rattle.lookup.proofs.all_below.Goals as goal
 
-pub loop-i-init : goal.loop-i-init
-loop-i-init c = (omega arith, refl)
-
-pub overflow_cast-indexes : goal.overflow_cast-indexes
-overflow_cast-indexes c = omega (arith, c.type_inv.indexes c.loop-i.i)
-
-pub returns-then-count-indexes : goal.returns-then-count-indexes
-returns-then-count-indexes c =
-    let start = c.args in
-    sym (sym c.loop-i.invariant.1 ∙ below_found start.count start.indexes.now c.loop-i.i (omega arith) (omega arith))
-
-pub loop-i-preserved : goal.loop-i-preserved
-loop-i-preserved c =
-    let i = c.loop-i.i in
-    let start = c.args in
-    let passed = below_passed start.count start.indexes.now i (omega arith) (omega arith) in
-    (omega arith, rw (add-one i) (sym passed ∙ c.loop-i.invariant.1))
-
 pub returns : goal.returns
+unfolding all_below
 returns c =
-    sym (sym c.loop-i.invariant.1 ∙ below_end _ _ c.loop-i.i (omega arith))
+    let count = c.args.count in
+    all_down (λ (i : ℕ). ltb i count) (all_below count) refl (λ i l. refl) c.args.indexes.now _
+    (cases_from_all _ _ _ (λ i. ltb i count ≡ true) (λ i. ltb i count ≡ false) c.all.ensures.ran (YieldsList-from_slice c.args.indexes.now cc)
+    (λ x q k. search (rules, tests))
+    (λ x q k. search (rules, tests)))

@@ -1,15 +1,13 @@
--- `number::read_u16` meets its contract: past the two tests the bytes are all there, and else they are not.
+-- `number::read_u16` meets its contract: where the bytes are all there it is their number, and else 0.
 -- Assumes nothing.
-use mathlib.Core.Path.{sym, ◌∙◌}
-use native.Mathlib.Omega.{arith}
-use Rattle.number.proofs.Laws.{number_there, number_not_there}
+use mathlib.Core.Path.{◌≡◌}
+use Rattle.std.specs.Int.{from_le_bytes, w16}
+use Rattle.std.specs.Option.{MatchOption}
+use Rattle.std.proofs.Common.{rules}
+use Rattle.number.proofs.Laws.{read}
 use Rattle.number.proofs.read_u16.Goals as goal
 
-pub returns-then-bytes-lt2 : goal.returns-then-bytes-lt2
-returns-then-bytes-lt2 c = sym (number_not_there 2 _ _ (omega arith))
-
-pub returns-then-bytes-at : goal.returns-then-bytes-at
-returns-then-bytes-at c = sym (number_not_there 2 _ _ (omega arith))
-
 pub returns : goal.returns
-returns c = c.two_bytes.ensures ∙ sym (number_there 2 _ _ (omega arith))
+returns c =
+    let is : MatchOption c.bytes_at.result (c.map_or.result ≡ 0) (λ it. c.map_or.result ≡ from_le_bytes w16 it.now) = search rules in
+    read 1 _ c.args.bytes.now c.args.at c.bytes_at.result c.bytes_at.ensures is

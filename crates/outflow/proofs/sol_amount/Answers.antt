@@ -1,6 +1,6 @@
 -- `outflow::sol_amount` meets its contract.
 -- Assumes nothing.
-use Rattle.outflow.proofs.Outflow.{gross_amount, sol_amount_lem}
+use Rattle.outflow.proofs.Amounts.{gross_amount, sol_amount_lem}
 use Rattle.outflow.proofs.sol_amount.Goals as goal
 
 pub returns-then-kind-eq-SOL_MAX_PER_TX : goal.returns-then-kind-eq-SOL_MAX_PER_TX

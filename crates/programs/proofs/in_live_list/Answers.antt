@@ -1,30 +1,31 @@
--- `programs::in_live_list` meets its contract. The loop's invariant: the key is in the list where it is from `i` on.
+-- `programs::in_live_list` meets its contract: it asks action by action, as the definition does.
 -- Assumes nothing.
-use mathlib.Core.Path.{refl, sym, ◌∙◌}
-use native.Mathlib.Numerals.{add-one}
-use native.Mathlib.Omega.{arith}
-use Rattle.programs.proofs.Lists.{list_found, list_passed, list_end}
+use mathlib.Core.Path.{◌≡◌, refl}
+use mathlib.Core.Bool.{Bool, true, false, not, ◌&&◌}
+use mathlib.Core.List.{List}
+use borrow.Author.Tests.{tests}
+use lib.Dec.{eqb}
+use Rattle.std.proofs.Common.{rules}
+use Rattle.std.proofs.lemmas.Iterator.{cases_from_any, YieldsList-from_slice}
+use Rattle.answer.proofs.Chains.{any_down}
+use Rattle.key.specs.Key.{same_key}
+use Rattle.action.specs.declared.ActionView.{ActionView}
+use Rattle.action.specs.Action.{expired}
+use Rattle.action.specs.Fields.{key_of}
+use Rattle.action.specs.Views.{action_at}
+use Rattle.row.specs.Views.{actions_in}
+use Rattle.programs.specs.Programs.{in_live_list}
 use Rattle.programs.proofs.in_live_list.Goals as goal
 
-pub loop-i-init : goal.loop-i-init
-loop-i-init c = (omega arith, c.how_many-n.ensures, refl)
-
-pub returns-then-has_key : goal.returns-then-has_key
-returns-then-has_key c =
-    let row = c.args.actions.now in
-    sym (sym c.loop-i.invariant.2 ∙ list_found _ _ _ _ row c.loop-i.i _ c.action_in-view.ensures (omega arith) (sym c.has_key.ensures ∙ c.if-has_key.true))
-
-pub loop-i-preserved : goal.loop-i-preserved
-loop-i-preserved c =
-    let i = c.loop-i.i in
-    let row = c.args.actions.now in (
-      omega arith,
-      c.loop-i.invariant.1,
-      rw (add-one i)
-          (sym (list_passed _ _ _ _ row i _ c.action_in-view.ensures (omega arith) (sym c.has_key.ensures ∙ c.if-has_key.false)) ∙ c.loop-i.invariant.2),
-    )
-
 pub returns : goal.returns
+unfolding in_live_list actions_in action_at
 returns c =
-    let row = c.args.actions.now in
-    sym (sym c.loop-i.invariant.2 ∙ list_end _ _ _ _ row c.loop-i.i (omega arith))
+    let s = c.args.region.now in
+    let kind = c.args.kind in
+    let slot = c.args.slot in
+    let key = c.args.key.now in
+    let has : ActionView → Bool = λ v. eqb v.kind kind && not (expired v.expires slot) && same_key (key_of (action_at s v)) key in
+    any_down has (λ (l : List ActionView). in_live_list kind slot key (actions_in s l)) refl (λ v l. refl) c.args.views.now _
+    (cases_from_any _ _ _ (λ v. has v ≡ true) (λ v. has v ≡ false) c.any.ensures.ran (YieldsList-from_slice c.args.views.now cc)
+    (λ x q k. search (rules, tests))
+    (λ x q k. search (rules, tests)))

@@ -5,15 +5,13 @@ use Rattle.programs.proofs.Lists.{lists_not_whitelisted, lists_blacklisted, list
 use Rattle.programs.proofs.lists_answer.Goals as goal
 
 pub returns-then-not_whitelisted : goal.returns-then-not_whitelisted
-returns-then-not_whitelisted c = c.of.ensures ∙ sym (lists_not_whitelisted _ _ _ _ (sym c.not_whitelisted.ensures ∙ c.if-not_whitelisted.true))
+returns-then-not_whitelisted c = sym (lists_not_whitelisted _ _ _ _ (sym c.not_whitelisted.ensures ∙ c.if-not_whitelisted.true))
 
 pub returns-then-in_live_list : goal.returns-then-in_live_list
 returns-then-in_live_list c =
-    c.of-then-in_live_list.ensures
-    ∙ sym
+    sym
     (lists_blacklisted _ _ _ _ (sym c.not_whitelisted.ensures ∙ c.if-not_whitelisted.false) (sym c.in_live_list.ensures ∙ c.if-in_live_list.true))
 
 pub returns : goal.returns
 returns c =
-    c.of-2.ensures
-    ∙ sym (lists_allow _ _ _ _ (sym c.not_whitelisted.ensures ∙ c.if-not_whitelisted.false) (sym c.in_live_list.ensures ∙ c.if-in_live_list.false))
+    sym (lists_allow _ _ _ _ (sym c.not_whitelisted.ensures ∙ c.if-not_whitelisted.false) (sym c.in_live_list.ensures ∙ c.if-in_live_list.false))

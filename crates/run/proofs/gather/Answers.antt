@@ -1,16 +1,8 @@
 -- `run::gather` meets its contract, by the two steps of taking bytes and of copying them.
 -- Assumes nothing.
-use mathlib.Core.Path.{sym}
 use native.Mathlib.Omega.{arith}
-use lib.Seq.{length-take-le}
 use Rattle.run.proofs.Gathering.{tail_part, gathered}
 use Rattle.run.proofs.gather.Goals as goal
-
-pub slice_bounds-wanted-end-2 : goal.slice_bounds-wanted-end-2
-slice_bounds-wanted-end-2 c = sym (length-take-le _ _ (omega arith))
-
-pub slice_bounds-wanted-end-4 : goal.slice_bounds-wanted-end-4
-slice_bounds-wanted-end-4 c = sym (length-take-le _ _ (omega arith))
 
 pub returns : goal.returns
 returns c =
