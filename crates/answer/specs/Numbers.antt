@@ -104,6 +104,11 @@ abbrev pub accepts : Answer → Bool
 accepts (Ok _) = true
 accepts (Err r) = false
 
+-- the answer of what gives a value or refuses
+abbrev pub answer_of : {A : Type 0} → Refusable A → Answer
+answer_of (Ok a) = Ok tt
+answer_of (Err r) = Err r
+
 -- the first of some answers that refuses, or acceptance where none does
 unfoldable pub first_refusal : List Answer → Answer
 first_refusal [] = Ok tt

@@ -1,6 +1,7 @@
 pub mod Format
 pub mod Indexes
 pub mod Keeping
+pub mod Laid
 pub mod Lists
 pub mod NamedValues
 pub mod Parts

@@ -1,4 +1,5 @@
 pub mod Compact
 pub mod Entries
+pub mod Laid
 pub mod Views
 pub mod NamedValues

@@ -4,11 +4,12 @@
 
 ghost use Rattle.std.specs.Prelude.{◌≡◌, ◌≤◌, length, drop};
 ghost use Rattle.compact.specs.Compact.{decode_one};
-ghost use Rattle.compact.specs.Entries.{within};
+ghost use Rattle.compact.specs.Entries.{within, entries_in};
 ghost use Rattle.compact.specs.Views.{reading, parsed_programs, head_of, Kept};
 
 use answer::Refusal;
 use arrayvec::ArrayVec;
+use std::marker::Model;
 
 pub const MAX_COMPACT_INSTRUCTIONS: usize = 16;
 
@@ -27,9 +28,51 @@ pub struct Entry {
     pub payload: Range,
 }
 
-#[derive(Drop)]
+// At most sixteen entries. What is read may be copied, and an `ArrayVec` may not; a contract sees the same of both.
+#[derive(Clone, Copy)]
+pub struct Entries {
+    list: [Entry; MAX_COMPACT_INSTRUCTIONS],
+    count: usize,
+}
+
+impl Model for Entries {
+    ghost use Rattle.std.specs.Prelude.{take};
+    ghost use Rattle.arrayvec.specs.ArrayVec.{ArrayVec as Items};
+    ghost use Rattle.compact.specs.declared.Entry.{Entry};
+
+    ghost Value = { Items Entry };
+
+    ghost use Rattle.compact.specs.Laid.{Laid, laid, laid_again};
+
+    ghost view = { λ e. record { items = take e.count e.list } };
+
+    ghost invariant = { Laid };
+
+    ghost inverse = { laid };
+
+    ghost inverse_ok = { laid_again };
+}
+
+impl Entries {
+    fn of(entries: &ArrayVec<Entry, MAX_COMPACT_INSTRUCTIONS>) -> Self
+        ensures { result ≡ entries.now }
+    {
+        let count = entries.len();
+        let mut list = [Entry::default(); MAX_COMPACT_INSTRUCTIONS];
+        list[..count].copy_from_slice(entries.as_slice());
+        Entries { list, count }
+    }
+
+    pub fn as_slice(&self) -> &[Entry]
+        ensures { result.now ≡ entries_in self.now }
+    {
+        &self.list[..self.count]
+    }
+}
+
+#[derive(Clone, Copy)]
 pub struct ParsedInstructions {
-    pub entries: ArrayVec<Entry, MAX_COMPACT_INSTRUCTIONS>,
+    pub entries: Entries,
     pub consumed: usize,
 }
 
@@ -96,7 +139,10 @@ pub fn parse_compact_instructions(bytes: &[u8]) -> Result<ParsedInstructions, Re
     ensures { result ≡ reading bytes.now }
 {
     let (entries, consumed) = parse(bytes, |entry| entry)?;
-    Ok(ParsedInstructions { entries, consumed })
+    Ok(ParsedInstructions {
+        entries: Entries::of(&entries),
+        consumed,
+    })
 }
 
 // What a judged call needs of the list at the front of `bytes`: the program index of each entry.

@@ -63,9 +63,15 @@ one_refusal r false false false true e = refl
 one_refusal r false false false false true = refl
 one_refusal r false false false false false = refl
 
-pub stored_by_form : (l : List Action) → form_of BadRegion BadRegion Windowed l ≡ stored_answer l
-unfolding form_of in_stored_form stored_answer
-stored_by_form l = one_refusal BadRegion _ _ _ _ _
+-- what a judged call answers to actions, where cutting them has an answer
+module _ (l : List Action) where
+  pub answer_not_cut : (r : Refusal) → stored_answer (Err r) l ≡ Err BadRegion
+  unfolding stored_answer
+  answer_not_cut r = refl
+
+  pub answer_by_form : {u : Unit {0}} → form_of BadRegion BadRegion Windowed l ≡ stored_answer (Ok u) l
+  unfolding form_of in_stored_form stored_answer
+  answer_by_form = one_refusal BadRegion _ _ _ _ _
 
 -- ---- a region that was cut
 

@@ -17,7 +17,8 @@ use action::{
     SOL_RECURRING_LIMIT, expected_data_size,
 };
 use answer::{Answer, Refusal};
-use region::parse_actions;
+use arrayvec::ArrayVec;
+use region::cut_into;
 
 // What each action has to keep by itself. An enum and no closure: the definitions `keeps` and `form_of`
 // take it.
@@ -152,7 +153,8 @@ fn form(
 pub fn validate_actions_buffer(region: &[u8]) -> Answer
     ensures { result ≡ creation region.now }
 {
-    let views = parse_actions(region)?;
+    let mut views = ArrayVec::new();
+    cut_into(region, &mut views)?;
     form(
         region,
         views.as_slice(),
@@ -162,11 +164,14 @@ pub fn validate_actions_buffer(region: &[u8]) -> Answer
     )
 }
 
-// What a judged call answers to the actions of a region: it was accepted, and is in stored form; any
-// breach is the one refusal.
-pub fn stored_answer(region: &[u8], views: &[ActionView]) -> Answer
-    ensures { result ≡ stored_answer (actions_in region.now views.now) }
+// What a judged call answers to the actions of a region: any breach of the stored form, cutting included, is the
+// one refusal.
+pub fn stored_answer(region: &[u8], cut: Answer, views: &[ActionView]) -> Answer
+    ensures { result ≡ stored_answer cut (actions_in region.now views.now) }
 {
+    let Ok(()) = cut else {
+        return Err(Refusal::BadRegion);
+    };
     form(
         region,
         views,

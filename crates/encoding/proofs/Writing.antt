@@ -21,7 +21,7 @@ use Rattle.answer.specs.Refusable.{Refusable, Ok, Err}
 use Rattle.number.specs.Number.{bytes_of}
 use Rattle.part.proofs.Laws.{length_part_there}
 use Rattle.compact.specs.declared.Entry.{Entry}
-use Rattle.compact.specs.Compact.{most_instructions, most_accounts, most_payload, encode_one, encode_each, encode}
+use Rattle.compact.specs.Compact.{Instruction, most_instructions, most_accounts, most_payload, encode_one, encode_each, encode}
 use Rattle.compact.specs.Entries.{range_bytes, meant, list_of, within}
 use Rattle.compact.proofs.Format.{length-encode_one}
 use Rattle.encoding.specs.Encoding.{encodable_one, encodable_each, encodable, writing_answer, writing, output_after}
@@ -61,6 +61,10 @@ module _ (source : List ℕ) (e : Entry) where
 pub length_kept : (source : List ℕ) (e : Entry) → Keeps source e → length (encode_one (meant source e)) ≡ 4 + e.accounts.len + e.payload.len
 unfolding within
 length_kept source e k = length-meant source e (le-leb _ _ k.accounts) (le-leb _ _ k.payload)
+
+pub length-encode : (is : List Instruction) → length (encode is) ≡ 1 + length (encode_each is)
+unfolding encode
+length-encode is = omega arith
 
 -- what a size says, and what it says that there is none
 pub sized : (t : Bool) (n size : ℕ) → size_if t n ≡ Ok size → (t ≡ true) × (n ≡ size)

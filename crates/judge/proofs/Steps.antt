@@ -9,11 +9,13 @@ use native.Mathlib.Omega.{arith}
 use borrow.Author.Tests.{eq-eqb, ne_eqb}
 use lib.ListN.{length, replicate, length-append, length-map}
 use lib.Seq.{take_all}
+use Rattle.std.specs.Result.{result_unwrap_or}
 use Rattle.arrayvec.specs.ArrayVec.{ArrayVec}
 use Rattle.answer.specs.declared.Refusal.{Refusal}
 use Rattle.answer.specs.declared.Refusal.TheVariants.{SessionTokenAuthorityChanged, BadTable, BadRegion}
 use Rattle.answer.specs.Numbers.{Answer, accepts, first_refusal, refuse_if}
 use Rattle.answer.specs.Refusable.{Refusable, Ok, Err}
+use Rattle.answer.proofs.Lent.{refused_lent, given_lent}
 use Rattle.answer.proofs.Laws.{first_ok, first_err, rule_holds, rule_broken, no_rule, only, first-append}
 use Rattle.number.specs.Number.{Bytes}
 use Rattle.keys.specs.declared.Keys.{Keys}
@@ -26,7 +28,7 @@ use Rattle.region.specs.Views.{action_views_from, views_of}
 use Rattle.region.proofs.Cuts.{cut_cuts, cut_at_most}
 use Rattle.creation.specs.Creation.{in_stored_form, stored_actions}
 use Rattle.creation.specs.Views.{stored_answer}
-use Rattle.creation.proofs.Forms.{stored_given, stored_not_given}
+use Rattle.creation.proofs.Forms.{answer_not_cut, stored_given, stored_not_given, stored_refused}
 use Rattle.creation.proofs.Theorems.{stored_is_formed, stored_is_glued}
 use Rattle.mints.specs.Mints.{is_listed}
 use Rattle.mints.specs.Views.{listed_mints}
@@ -116,22 +118,41 @@ pub programs_not_read : (s : List ℕ) (r : Refusal) → parsed_programs (readin
 programs_not_read s r h = let (none, same) = programs_refused s r h in rw (none, same)
 
 -- what is answered to the views of a region that was cut is the answer of its stored form
-pub region_form : (s : List ℕ) (views : ArrayVec ActionView) → views_of (cut most_actions s) ≡ Ok views → stored_answer (actions_in s views.items) ≡ answer_of (stored_actions s)
+form_cut : (s : List ℕ) (views : ArrayVec ActionView) → views_of (cut most_actions s) ≡ Ok views → stored_answer (Ok tt) (actions_in s views.items) ≡ answer_of (stored_actions s)
 unfolding stored_answer
-region_form s views e = go (in_stored_form (actions_in s views.items)) refl
+form_cut s views e = go (in_stored_form (actions_in s views.items)) refl
   where
     go : (f : Bool) → in_stored_form (actions_in s views.items) ≡ f → refuse_if (not f) BadRegion ≡ answer_of (stored_actions s)
     go true k = rw (stored_given s views e k)
     go false k = rw (stored_not_given s views e k)
 
-pub region_stored : (s : List ℕ) (views : ArrayVec ActionView) → views_of (cut most_actions s) ≡ Ok views → {u : Unit {0}} → stored_answer (actions_in s views.items) ≡ Ok u
+stored_cut : (s : List ℕ) (views : ArrayVec ActionView) → views_of (cut most_actions s) ≡ Ok views → {u : Unit {0}} → stored_answer (Ok tt) (actions_in s views.items) ≡ Ok u
     → stored_actions s ≡ Ok (actions_in s views.items)
 unfolding stored_answer
-region_stored s views e {u} h = go (in_stored_form (actions_in s views.items)) refl h
+stored_cut s views e {u} h = go (in_stored_form (actions_in s views.items)) refl h
   where
     go : (f : Bool) → in_stored_form (actions_in s views.items) ≡ f → refuse_if (not f) BadRegion ≡ Ok u → stored_actions s ≡ Ok (actions_in s views.items)
     go true k q = stored_given s views e k
     go false k q = absurd (let z : ◌≡◌ {A = ℕ} 0 1 = cc in omega arith)
+
+-- and so it is of the list that a region was cut into, whether it was cut or not
+module _ (s : List ℕ) (cutting : Answer) (views : ArrayVec ActionView) (said : cutting ≡ answer_of (views_of (cut most_actions s)))
+    (lent : views ≡ result_unwrap_or (views_of (cut most_actions s)) (record { items = [] })) where
+  pub region_form : stored_answer cutting (actions_in s views.items) ≡ answer_of (stored_actions s)
+  region_form = go cutting said
+    where
+      go : (a : Answer) → a ≡ answer_of (views_of (cut most_actions s)) → stored_answer a (actions_in s views.items) ≡ answer_of (stored_actions s)
+      go (Ok u) e = form_cut s views (given_lent _ _ _ e lent)
+      go (Err r) e = answer_not_cut _ r ∙ sym (ap answer_of (stored_refused s r (refused_lent _ _ e)))
+
+  pub region_stored : {u : Unit {0}} → stored_answer cutting (actions_in s views.items) ≡ Ok u
+      → (views_of (cut most_actions s) ≡ Ok views) × (stored_actions s ≡ Ok (actions_in s views.items))
+  region_stored {u} h = go cutting said h
+    where
+      go : (a : Answer) → a ≡ answer_of (views_of (cut most_actions s)) → stored_answer a (actions_in s views.items) ≡ Ok u
+          → (views_of (cut most_actions s) ≡ Ok views) × (stored_actions s ≡ Ok (actions_in s views.items))
+      go (Ok u) e k = let is_cut = given_lent _ _ _ e lent in (is_cut, stored_cut s views is_cut k)
+      go (Err r) e k = absurd (let no = sym (answer_not_cut _ r) ∙ k in let z : ◌≡◌ {A = ℕ} 0 1 = cc in omega arith)
 
 -- a region that is refused is refused with 15
 pub stored_refusal : (s : List ℕ) (r : Refusal) → stored_actions s ≡ Err r → r ≡ BadRegion

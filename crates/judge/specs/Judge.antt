@@ -4,6 +4,7 @@ use Rattle.std.specs.Prelude.{ℕ, not, cond, List, [], ◌∷◌, ◌++◌, map
 use Rattle.std.proofs.Math.Option.{Option, none, some}
 use Rattle.answer.specs.declared.Refusal.TheVariants.{InvalidInstructionData, SessionTokenAuthorityChanged, BadTable}
 use Rattle.answer.specs.Numbers.{Answer, accepts, first_refusal, refuse_if}
+pub use Rattle.answer.specs.Numbers.{answer_of}
 use Rattle.answer.specs.Refusable.{Refusable, Ok, Err}
 use Rattle.key.specs.Key.{key_length}
 use Rattle.action.specs.Action.{Action}
@@ -43,11 +44,6 @@ call_of before after instructions vault slot lamports_before lamports_after gros
   lamports_after = lamports_after;
   gross = gross;
 }
-
--- the answer of what gives a value or refuses
-abbrev pub answer_of : {A : Type 0} → Refusable A → Answer
-answer_of (Ok a) = Ok tt
-answer_of (Err r) = Err r
 
 -- the records of the table before, and of the table after
 unfoldable pub records_before : Call → List Record

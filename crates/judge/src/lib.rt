@@ -14,6 +14,7 @@ ghost use Rattle.judge.specs.Views.{call_lent, amounts_moved, checks_from, limit
 use account::{RecordView, Table};
 use action::ActionView;
 use answer::{Answer, Refusal};
+use arrayvec::ArrayVec;
 use charge::{Class, class_answer, settle};
 use compact::parse_programs;
 use creation::stored_answer;
@@ -24,8 +25,6 @@ use mints::listed_mints;
 use number::floored_difference;
 use outflow::Outflow;
 use programs::evaluate_pre_actions;
-use region::parse_actions;
-use table::cut_places;
 
 // What a judged call is given besides the region.
 #[derive(Clone, Copy)]
@@ -67,7 +66,9 @@ fn limits_answer(region: &[u8], views: &[ActionView], amounts: &[u64], slot: u64
     class_answer(region, views, amounts, Class::Tokens, slot)
 }
 
-// Steps 4 to 9, on what was cut; an empty region has no rules.
+// Steps 4 to 9, on what was cut; an empty region has no rules. Not put into its caller, where the walks over 64
+// records take up to a fifth longer.
+#[inline(never)]
 fn judge_cut(
     region: &mut [u8],
     views: &[ActionView],
@@ -93,12 +94,12 @@ fn judge_after(region: &mut [u8], call: Call, before: &[RecordView]) -> Answer
     requires { (length call.vault.now ≡ 32) × (cut_table call.before.now ≡ Ok (records_in call.before.now before.now)) }
     ensures { (result ≡ judged region.old (call_lent call.entry)) × (region.new ≡ region_after region.old (call_lent call.entry)) }
 {
-    let after = cut_places(call.after)?;
+    let mut after = ArrayVec::new();
+    table::cut_into(call.after, &mut after)?;
     let programs = parse_programs(call.instructions)?;
-    let Ok(views) = parse_actions(region) else {
-        return Err(Refusal::BadRegion);
-    };
-    stored_answer(region, views.as_slice())?;
+    let mut views = ArrayVec::new();
+    let cut = region::cut_into(region, &mut views);
+    stored_answer(region, cut, views.as_slice())?;
     let moved = Outflow {
         before: Table {
             bytes: call.before,
@@ -128,6 +129,7 @@ pub fn judge(region: &mut [u8], call: Call) -> Answer
     if call.vault.len() != KEY_LENGTH {
         return Err(Refusal::BadTable);
     }
-    let before = cut_places(call.before)?;
+    let mut before = ArrayVec::new();
+    table::cut_into(call.before, &mut before)?;
     judge_after(region, call, before.as_slice())
 }

@@ -1,12 +1,15 @@
 -- Laws of the listed mints, collected action by action.
 -- Assumes nothing.
-use mathlib.Core.Path.{◌≡◌, refl}
-use mathlib.Core.Bool.{true, false}
+use mathlib.Core.Path.{◌≡◌, refl, ◌∙◌}
+use mathlib.Core.Bool.{Bool, true, false, not, cond, ◌&&◌}
 use mathlib.Core.List.{List, []}
-use Prim.Native.Nat.{ℕ, suc, ◌<◌, ◌≤◌}
-use lib.ListN.{length, get_or, drop, drop_of_length-le}
+use Prim.Native.Nat.{ℕ, suc, ◌+◌, ◌<◌, ◌≤◌}
+use native.Mathlib.Omega.{arith}
+use borrow.Author.Tests.{ltb-true}
+use lib.Dec.{eqb, ltb}
+use lib.ListN.{length, get_or, drop, set, length-set, drop_of_length-le}
 use Rattle.keys.specs.declared.Keys.{Keys}
-use Rattle.keys.specs.Views.{keys_of, with_key}
+use Rattle.keys.specs.Views.{is_among, keys_in, keys_of, with_key}
 use Rattle.action.specs.declared.ActionView.{ActionView}
 use Rattle.action.specs.Action.{Action}
 use Rattle.action.specs.Fields.{is_token, key_of}
@@ -22,6 +25,28 @@ mint_kept mints a e = rw e
 pub mint_added : (mints : Keys) (a : Action) → is_token a.kind ≡ true → with_mint mints a ≡ with_key mints (key_of a)
 unfolding with_mint
 mint_added mints a e = rw e
+
+-- a list that is filled keeps its sixteen places, and no more than sixteen are counted
+pub record Filled (mints : Keys) : Type 0 where
+  pub places : length mints.list ≡ 16
+  pub few : mints.count ≤ 16
+
+pub none_filled : Filled (keys_of [])
+unfolding keys_of
+none_filled = record { places = refl; few = omega arith }
+
+pub filled_next : (mints : Keys) (a : Action) → Filled mints → Filled (with_mint mints a)
+unfolding with_mint with_key
+filled_next mints a far =
+    go (is_token a.kind) (ltb mints.count 16) refl (eqb (length (key_of a)) 32) (not (is_among (key_of a) (keys_in mints)))
+  where
+    go : (t room : Bool) → ltb mints.count 16 ≡ room → (whole new : Bool)
+        → Filled (cond t (cond (room && whole && new) (record { list = set mints.list mints.count (record { bytes = key_of a }); count = mints.count + 1 }) mints) mints)
+    go false room e whole new = far
+    go true false e whole new = far
+    go true true e false new = far
+    go true true e true false = far
+    go true true e true true = let less : mints.count < 16 = ltb-true _ _ e in record { places = length-set mints.list _ _ ∙ far.places; few = omega arith }
 
 -- ---- collecting, a view at a time
 

@@ -23,6 +23,9 @@ account-record_owner _ _ = (tt, λ _ _ p q. both (one-outcome p q) refl)
 pub account-record_payload : OneOutcomeOfSlice account-contracts.record_payload.ended account.record_payload.Reads.Pre account.record_payload.Reads.Post
 account-record_payload _ _ = (tt, λ _ _ p q. both (one-outcome p q) refl)
 
+pub table-cut_into : OneOutcome table-contracts.cut_into.ended table.cut_into.Reads.Pre table.cut_into.Reads.Post
+table-cut_into _ _ = (tt, λ _ _ p q. both (one-outcome p.0 q.0) (both refl (both (one-outcome p.1 q.1) refl)))
+
 pub table-cut_places : OneOutcome table-contracts.cut_places.ended table.cut_places.Reads.Pre table.cut_places.Reads.Post
 table-cut_places _ _ = (tt, λ _ _ p q. both (one-outcome p q) refl)
 

@@ -5,8 +5,11 @@ use Rattle.compact.proofs as compact
 use Rattle.compact.specs.contracts as compact-contracts
 use Rattle.encoding.proofs as encoding
 use Rattle.encoding.specs.contracts as encoding-contracts
-use Rattle.outcomes.specs.Outcome.{OneOutcome}
+use Rattle.outcomes.specs.Outcome.{OneOutcome, OneOutcomeOfSlice}
 use Rattle.outcomes.proofs.Laws.{both, one-outcome}
+
+pub compact-Entries-as_slice : OneOutcomeOfSlice compact-contracts.Entries.as_slice.ended compact.Entries.as_slice.Reads.Pre compact.Entries.as_slice.Reads.Post
+compact-Entries-as_slice _ _ = (tt, λ _ _ p q. both (one-outcome p q) refl)
 
 pub compact-parse_compact_instructions : OneOutcome compact-contracts.parse_compact_instructions.ended compact.parse_compact_instructions.Reads.Pre compact.parse_compact_instructions.Reads.Post
 compact-parse_compact_instructions _ _ = (tt, λ _ _ p q. both (one-outcome p q) refl)

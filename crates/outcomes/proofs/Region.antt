@@ -56,6 +56,9 @@ action-expected_data_size _ _ = (tt, λ _ _ p q. both (one-outcome p q) refl)
 pub change-apply_change : OneOutcome change-contracts.apply_change.ended change.apply_change.Reads.Pre change.apply_change.Reads.Post
 change-apply_change _ _ = (tt, λ _ _ p q. both refl (both (one-outcome p q) refl))
 
+pub region-cut_into : OneOutcome region-contracts.cut_into.ended region.cut_into.Reads.Pre region.cut_into.Reads.Post
+region-cut_into _ _ = (tt, λ _ _ p q. both (one-outcome p.0 q.0) (both refl (both (one-outcome p.1 q.1) refl)))
+
 pub region-parse_actions : OneOutcome region-contracts.parse_actions.ended region.parse_actions.Reads.Pre region.parse_actions.Reads.Post
 region-parse_actions _ _ = (tt, λ _ _ p q. both (one-outcome p q) refl)
 

@@ -26,6 +26,11 @@ unfolding action_views_from end_of
 placed_append place [] a = refl
 placed_append place (b ∷ l) a = ap (λ (vs : List ActionView). action_view_at place b ∷ vs) (placed_append (place + 11 + length b.payload) l a)
 
+pub length_placed : (place : ℕ) (l : List Action) → length (action_views_from place l) ≡ length l
+unfolding action_views_from
+length_placed place [] = refl
+length_placed place (a ∷ l) = ap suc (length_placed (place + 11 + length a.payload) l)
+
 end_append : (place : ℕ) (l : List Action) (a : Action) → end_of place (l ++ (a ∷ [])) ≡ end_of place l + 11 + length a.payload
 unfolding end_of
 end_append place [] a = refl

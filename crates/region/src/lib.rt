@@ -1,12 +1,15 @@
 // The action region: reading headers, and cutting it into the views of its actions. Any bytes get an answer.
 #![tactic(auto)]
 
-ghost use Rattle.std.specs.Prelude.{◌≡◌};
+ghost use Rattle.std.specs.Prelude.{◌≡◌, [], OnOk};
+ghost use Rattle.std.specs.Result.{result_unwrap_or};
+ghost use Rattle.answer.specs.Numbers.{answer_of};
+ghost use Rattle.answer.specs.Refusable.{Ok};
 ghost use Rattle.region.specs.Region.{cut, most_actions};
 ghost use Rattle.region.specs.Views.{header_at, views_of};
 
 use action::{ActionView, expected_data_size};
-use answer::Refusal;
+use answer::{Answer, Refusal};
 use arrayvec::ArrayVec;
 
 pub const ACTION_HEADER_SIZE: usize = 11;
@@ -41,11 +44,12 @@ fn read_header(region: &[u8], at: usize) -> Result<ActionView, Refusal>
     })
 }
 
-// The views of a region's actions, in order.
-pub fn parse_actions(region: &[u8]) -> Result<ArrayVec<ActionView, MAX_ACTIONS>, Refusal>
-    ensures { result ≡ views_of (cut most_actions region.now) }
+// Reads the views of a region's actions into a list that has none, as far as they are sound.
+fn read_actions(region: &[u8], views: &mut ArrayVec<ActionView, MAX_ACTIONS>) -> Answer
+    requires { views.old.items ≡ [] }
+    ensures answer { result ≡ answer_of (views_of (cut most_actions region.now)) }
+    ensures all { OnOk result (views_of (cut most_actions region.now) ≡ Ok views.new) }
 {
-    let mut views = ArrayVec::new();
     let mut at = 0;
     // The place moves by what the header states, so no `for` counts it.
     while at < region.len() {
@@ -56,5 +60,28 @@ pub fn parse_actions(region: &[u8]) -> Result<ArrayVec<ActionView, MAX_ACTIONS>,
         at = view.at + view.len;
         views.push(view);
     }
+    Ok(())
+}
+
+// Cuts a region into the views of its actions, in order, which are all that a list has afterwards; none on a
+// refusal. Lent, since a list that is answered by value is copied twice on its way out.
+pub fn cut_into(region: &[u8], views: &mut ArrayVec<ActionView, MAX_ACTIONS>) -> Answer
+    ensures answer { result ≡ answer_of (views_of (cut most_actions region.now)) }
+    ensures views_after { views.new ≡ result_unwrap_or (views_of (cut most_actions region.now)) (record { items = [] }) }
+{
+    views.clear();
+    let answer = read_actions(region, views);
+    if answer.is_err() {
+        views.clear();
+    }
+    answer
+}
+
+// The views of a region's actions, in order.
+pub fn parse_actions(region: &[u8]) -> Result<ArrayVec<ActionView, MAX_ACTIONS>, Refusal>
+    ensures { result ≡ views_of (cut most_actions region.now) }
+{
+    let mut views = ArrayVec::new();
+    cut_into(region, &mut views)?;
     Ok(views)
 }

@@ -27,6 +27,11 @@ unfolding record_views_from end_of
 placed_append place [] r = refl
 placed_append place (b ∷ l) r = ap (λ (vs : List RecordView). record_view_at place b ∷ vs) (placed_append (place + 68 + length b.payload) l r)
 
+pub length_placed : (place : ℕ) (l : List Record) → length (record_views_from place l) ≡ length l
+unfolding record_views_from
+length_placed place [] = refl
+length_placed place (r ∷ l) = ap suc (length_placed (place + 68 + length r.payload) l)
+
 end_append : (place : ℕ) (l : List Record) (r : Record) → end_of place (l ++ (r ∷ [])) ≡ end_of place l + 68 + length r.payload
 unfolding end_of
 end_append place [] r = refl

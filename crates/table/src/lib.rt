@@ -2,12 +2,15 @@
 // an answer.
 #![tactic(auto)]
 
-ghost use Rattle.std.specs.Prelude.{◌≡◌};
+ghost use Rattle.std.specs.Prelude.{◌≡◌, [], OnOk};
+ghost use Rattle.std.specs.Result.{result_unwrap_or};
+ghost use Rattle.answer.specs.Numbers.{answer_of};
+ghost use Rattle.answer.specs.Refusable.{Ok};
 ghost use Rattle.table.specs.Table.{cut_table};
 ghost use Rattle.table.specs.Views.{read_at, places_of};
 
 use account::{RECORD_HEADER_SIZE, RecordView};
-use answer::Refusal;
+use answer::{Answer, Refusal};
 use arrayvec::ArrayVec;
 
 pub const TABLE_HEADER_SIZE: usize = 2;
@@ -34,9 +37,11 @@ fn read_record(table: &[u8], at: usize) -> Result<RecordView, Refusal>
     Ok(RecordView { at, len })
 }
 
-// The views of a table's records, in order.
-pub fn cut_places(table: &[u8]) -> Result<ArrayVec<RecordView, MAX_RECORDS>, Refusal>
-    ensures { result ≡ places_of (cut_table table.now) }
+// Reads the views of a table's records into a list that has none, as far as they are sound.
+fn read_records(table: &[u8], views: &mut ArrayVec<RecordView, MAX_RECORDS>) -> Answer
+    requires { views.old.items ≡ [] }
+    ensures answer { result ≡ answer_of (places_of (cut_table table.now)) }
+    ensures all { OnOk result (places_of (cut_table table.now) ≡ Ok views.new) }
 {
     if table.len() < TABLE_HEADER_SIZE {
         return Err(Refusal::BadTable);
@@ -45,7 +50,6 @@ pub fn cut_places(table: &[u8]) -> Result<ArrayVec<RecordView, MAX_RECORDS>, Ref
     if MAX_RECORDS < counted {
         return Err(Refusal::BadTable);
     }
-    let mut views = ArrayVec::new();
     let mut at = TABLE_HEADER_SIZE;
     for _ in 0..counted {
         let view = read_record(table, at)?;
@@ -55,5 +59,28 @@ pub fn cut_places(table: &[u8]) -> Result<ArrayVec<RecordView, MAX_RECORDS>, Ref
     if at < table.len() {
         return Err(Refusal::BadTable);
     }
+    Ok(())
+}
+
+// Cuts a table into the views of its records, in order, which are all that a list has afterwards; none on a
+// refusal. Lent, since a list that is answered by value is copied twice on its way out.
+pub fn cut_into(table: &[u8], views: &mut ArrayVec<RecordView, MAX_RECORDS>) -> Answer
+    ensures answer { result ≡ answer_of (places_of (cut_table table.now)) }
+    ensures views_after { views.new ≡ result_unwrap_or (places_of (cut_table table.now)) (record { items = [] }) }
+{
+    views.clear();
+    let answer = read_records(table, views);
+    if answer.is_err() {
+        views.clear();
+    }
+    answer
+}
+
+// The views of a table's records, in order.
+pub fn cut_places(table: &[u8]) -> Result<ArrayVec<RecordView, MAX_RECORDS>, Refusal>
+    ensures { result ≡ places_of (cut_table table.now) }
+{
+    let mut views = ArrayVec::new();
+    cut_into(table, &mut views)?;
     Ok(views)
 }

@@ -33,8 +33,9 @@ pub(crate) fn read(rt: &impl Print, payload: &[u8]) -> io::Result<bool> {
         Ok(parsed) => {
             text::print_answer(rt, Ok(()))?;
             text::print_next(rt, parsed.consumed)?;
-            text::print_next(rt, parsed.entries.len())?;
-            print_entries(rt, parsed.entries.as_slice())?;
+            let entries = parsed.entries.as_slice();
+            text::print_next(rt, entries.len())?;
+            print_entries(rt, entries)?;
         }
         Err(refusal) => text::print_answer(rt, Err(refusal))?,
     }

@@ -1,6 +1,8 @@
 -- `balance::balance` meets its contract: the fold over the records is their capped sum.
 -- Assumes nothing.
 use Rattle.std.proofs.Common.{rules, ℕ, ◌∙◌}
+use native.Mathlib.Omega.{arith}
+use Rattle.std.proofs.lemmas.Grind.{common_steps}
 use Rattle.std.proofs.lemmas.Iterator.{YieldsList-from_slice}
 use Rattle.std.proofs.lemmas.Iterator.Consumers.{fold_from_yields_List}
 use Rattle.number.specs.Number.{capped_sum}
@@ -14,5 +16,5 @@ pub returns : goal.returns
 returns c =
     let table = c.args.table in
     fold_from_yields_List _ (λ (t : ℕ) (v : RecordView). capped_sum t (share c.args.vault.now c.args.mint.now (record_at table.bytes.now v))) _ _
-    c.fold.ensures.ran (YieldsList-from_slice table.records.now (search rules)) (λ a x b q h. search rules)
+    c.fold.ensures.ran (YieldsList-from_slice table.records.now (search rules)) (λ a x b q h. grind (arith, common_steps))
     ∙ balance_fold c.args.vault.now c.args.mint.now table.bytes.now table.records.now

@@ -6,7 +6,6 @@ use mathlib.Core.Logic.{◌≢◌}
 use native.Mathlib.Omega.{arith}
 use borrow.Author.Tests.{tests}
 use lib.ListN.{length}
-use Rattle.std.proofs.Common.{rules}
 use Rattle.std.proofs.lemmas.Grind.{common_steps}
 use Rattle.std.proofs.lemmas.Iterator.{cases_from_all, YieldsList-from_range}
 use Rattle.number.specs.Number.{number_at}
@@ -20,7 +19,7 @@ returns-then-b-eq-KEY_LENGTH c =
     let b = c.args.b.now in
     let long_a : length a ≡ 32 = grind (arith, common_steps) in
     words_compared a b (λ k. omega (arith, c.type_inv.a k)) (λ k. omega (arith, c.type_inv.b k)) long_a (omega arith) c.all.result
-    (cases_from_all _ _ _ (λ i. number_at 8 a (8 * i) ≡ number_at 8 b (8 * i)) (λ i. number_at 8 a (8 * i) ≢ number_at 8 b (8 * i)) c.all.ensures.ran (YieldsList-from_range 0 4 4 refl refl) (λ x q k. search (rules, tests)) (λ x q k. search (rules, tests)))
+    (cases_from_all _ _ _ (λ i. number_at 8 a (8 * i) ≡ number_at 8 b (8 * i)) (λ i. number_at 8 a (8 * i) ≢ number_at 8 b (8 * i)) c.all.ensures.ran (YieldsList-from_range 0 4 4 refl refl) (λ x q k. grind (arith, common_steps, tests)) (λ x q k. grind (arith, common_steps, tests)))
 
 pub returns-else-b-eq-KEY_LENGTH : goal.returns-else-b-eq-KEY_LENGTH
 returns-else-b-eq-KEY_LENGTH c = grind (arith, common_steps, left_no_key, right_no_key)

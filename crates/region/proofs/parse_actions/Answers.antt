@@ -1,34 +1,14 @@
--- `region::parse_actions` meets its contract. The loop's invariant is `CutSoFar`; what is left of the region falls.
+-- `region::parse_actions` meets its contract: the list that was cut into is answered.
 -- Assumes nothing.
 use mathlib.Core.Path.{sym, ◌∙◌}
-use native.Mathlib.Omega.{arith}
 use Rattle.std.proofs.lemmas.Result.{err_from_is_err_and}
-use Rattle.std.proofs.lemmas.Bool.Decides.{nat_tests}
-use Rattle.region.specs.Views.{views_of}
-use Rattle.region.proofs.Parsing.{cut_none, cut-one, cut_all, cut_too_many, cut-stopped, cut_moves, cut_stays}
+use Rattle.answer.proofs.Lent.{refused_lent, given_lent}
 use Rattle.region.proofs.parse_actions.Goals as goal
 
-pub loop-at-init : goal.loop-at-init
-loop-at-init c = rw c.new-views.ensures (cut_none _)
-
-pub loop-at-preserved : goal.loop-at-preserved
-loop-at-preserved c = rw c.push.ensures.items (cut-one c.loop-at.invariant (omega arith) (grind (arith, nat_tests)) c.in_ok-view.view (sym c.read_header.ensures ∙ c.in_ok-view.was))
-
-pub returns-then-is_full : goal.returns-then-is_full
-unfolding views_of
-returns-then-is_full c = rw (cut_too_many c.loop-at.invariant (omega arith) (grind (arith, nat_tests)))
-
-pub returns-in_err-view : goal.returns-in_err-view
-unfolding views_of
-returns-in_err-view c =
+pub returns-in_err-cut_into : goal.returns-in_err-cut_into
+returns-in_err-cut_into c =
     let p = err_from_is_err_and c.from_residual.result c.from_residual.ensures.1 in
-    rw (p.1, p.2, cut-stopped c.loop-at.invariant (omega arith) (grind (arith, nat_tests)) _ (sym c.read_header.ensures ∙ c.in_err-view.was))
-
-pub overflow_add-at : goal.overflow_add-at
-overflow_add-at c = omega (arith, cut_stays c.loop-at.invariant (omega arith) (grind (arith, nat_tests)) c.in_ok-view.view (sym c.read_header.ensures ∙ c.in_ok-view.was))
-
-pub loop-at-smaller : goal.loop-at-smaller
-loop-at-smaller c = omega (arith, cut_moves c.loop-at.invariant (omega arith) (grind (arith, nat_tests)) c.in_ok-view.view (sym c.read_header.ensures ∙ c.in_ok-view.was))
+    rw (p.1, p.2) (sym (refused_lent _ _ (sym c.in_err-cut_into.was ∙ c.cut_into.ensures.answer)))
 
 pub returns : goal.returns
-returns c = sym (cut_all c.loop-at.invariant (omega arith))
+returns c = sym (given_lent _ _ _ (sym c.in_ok-cut_into.was ∙ c.cut_into.ensures.answer) c.cut_into.ensures.views_after)

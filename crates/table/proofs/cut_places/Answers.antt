@@ -1,51 +1,14 @@
--- `table::cut_places` meets its contract. The loop's invariant is `CutSoFar`.
+-- `table::cut_places` meets its contract: the list that was cut into is answered.
 -- Assumes nothing.
-use mathlib.Core.Path.{refl, sym, ◌∙◌}
-use native.Mathlib.Omega.{arith}
-use lib.ListN.{length-append}
+use mathlib.Core.Path.{sym, ◌∙◌}
 use Rattle.std.proofs.lemmas.Result.{err_from_is_err_and}
-use Rattle.table.specs.Views.{places_of}
-use Rattle.table.proofs.Cutting.{table_short, table_too_many}
-use Rattle.table.proofs.Parsing.{cut_none, cut_all, cut_too_long, cut-stopped, cut_stays, cut-one}
+use Rattle.answer.proofs.Lent.{refused_lent, given_lent}
 use Rattle.table.proofs.cut_places.Goals as goal
 
-pub returns-then-table-lt-TABLE_HEADER_SIZE : goal.returns-then-table-lt-TABLE_HEADER_SIZE
-unfolding places_of
-returns-then-table-lt-TABLE_HEADER_SIZE c = rw (table_short c.args.table.now (omega arith))
-
-pub returns-then-counted-gt-MAX_RECORDS : goal.returns-then-counted-gt-MAX_RECORDS
-unfolding places_of
-returns-then-counted-gt-MAX_RECORDS c =
-    rw (table_too_many _ (omega arith) c.read_u16-counted.result c.read_u16-counted.ensures (omega arith))
-
-pub loop-init : goal.loop-init
-loop-init c =
-    let read = c.read_u16-counted in
-    rw c.new-views.ensures (refl, cut_none _ read.result (omega arith) read.ensures (omega arith))
-
-pub returns-in_err-view : goal.returns-in_err-view
-unfolding places_of
-returns-in_err-view c =
+pub returns-in_err-cut_into : goal.returns-in_err-cut_into
+returns-in_err-cut_into c =
     let p = err_from_is_err_and c.from_residual.result c.from_residual.ensures.1 in
-    rw (p.1, p.2, cut-stopped c.loop.invariant.1 (omega arith) _ (sym c.read_record.ensures ∙ c.in_err-view.was))
-
-pub overflow_add-at : goal.overflow_add-at
-overflow_add-at c = omega (arith, cut_stays c.loop.invariant.1 (omega arith) c.in_ok-view.view (sym c.read_record.ensures ∙ c.in_ok-view.was))
-
-pub overflow_add-at-in-loop : goal.overflow_add-at-in-loop
-overflow_add-at-in-loop c = omega (arith, cut_stays c.loop.invariant.1 (omega arith) c.in_ok-view.view (sym c.read_record.ensures ∙ c.in_ok-view.was))
-
-pub push-requires : goal.push-requires
-push-requires c = omega (arith, c.loop.invariant.0, c.loop.invariant.1.few)
-
-pub loop-preserved : goal.loop-preserved
-loop-preserved c =
-    let inv = c.loop.invariant in
-    rw c.push.ensures.items (simp length-append (omega arith), cut-one inv.1 (omega arith) c.in_ok-view.view (sym c.read_record.ensures ∙ c.in_ok-view.was))
-
-pub returns-then-at-table : goal.returns-then-at-table
-unfolding places_of
-returns-then-at-table c = rw (cut_too_long c.loop.invariant.1 (omega arith) (omega arith))
+    rw (p.1, p.2) (sym (refused_lent _ _ (sym c.in_err-cut_into.was ∙ c.cut_into.ensures.answer)))
 
 pub returns : goal.returns
-returns c = sym (cut_all c.loop.invariant.1 (omega arith) (omega arith))
+returns c = sym (given_lent _ _ _ (sym c.in_ok-cut_into.was ∙ c.cut_into.ensures.answer) c.cut_into.ensures.views_after)
